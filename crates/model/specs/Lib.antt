@@ -1,0 +1,20 @@
+-- The definitions, in the order of document 01: what a table stands for, the relations, solutions, a narrowing step, rounds, the search tree, the order of
+-- solutions, the file, the operations, demand 3, and the worked examples.
+pub mod Lists
+pub mod Words
+pub mod Domains
+pub mod Constraints
+pub mod Solutions
+pub mod Support
+pub mod Rounds
+pub mod Tree
+pub mod Order
+pub mod Replies
+pub mod Layout
+pub mod Reading
+pub mod Operations
+pub mod Claim
+pub mod Cases
+pub mod Examples
+pub mod FileExamples
+pub mod Traps
