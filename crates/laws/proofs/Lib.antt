@@ -1,0 +1,24 @@
+-- The laws about the definitions, each module after those it cites: lists and words; a row, a table and its domains; one narrowing step; rounds; solutions;
+-- the search tree; the file; demand 3. `Supports`, `NeqLaws` and `LoopLaws` are for the code above: a step's parts, Neq's step, the search's loop.
+pub mod ListLaws
+pub mod WordLaws
+pub mod BitsLaws
+pub mod TableLaws
+pub mod RowLaws
+pub mod DomainLaws
+pub mod SupportLaws
+pub mod Supports
+pub mod NeqLaws
+pub mod RoundLaws
+pub mod SolutionLaws
+pub mod ChildLaws
+pub mod NodeLaws
+pub mod BranchLaws
+pub mod TreeLaws
+pub mod SearchLaws
+pub mod LoopLaws
+pub mod ReplyLaws
+pub mod CallLaws
+pub mod LayoutLaws
+pub mod ReadingLaws
+pub mod Demand
