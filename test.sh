@@ -1,0 +1,15 @@
+#!/bin/sh
+# All tests. The gate, `rt ci`, proves every crate from nothing and tries the must-fail edits; its last line is the last line here.
+set -u
+cd "$(dirname "$0")" || exit 1
+
+python3 tests/documents.py || exit 1
+
+work=$(mktemp -d) || exit 1
+trap 'rm -rf "$work"' EXIT
+{ rt ci 2>&1; echo $? > "$work/status"; } | tee "$work/log"
+[ "$(cat "$work/status")" = 0 ] || exit 1
+
+# The edits must be refused because a fact fails: the gate has just left a log of each.
+python3 tests/must_fail.py || exit 1
+tail -n 1 "$work/log"
