@@ -15,6 +15,7 @@ use Rattle.model.specs.Operations.{stepCount, Stepped, step, Settlement,
 
 -- ---- a list of calls
 
+-- "list of Step and Settle calls": Step with its number, or Settle
 pub data Call : Type 0 where
   stepCall : ℕ → Call
   settleCall : Call

@@ -14,6 +14,7 @@ use Rattle.model.specs.Reading.{Reading, symbolsBelow}
 
 -- ---- Read
 
+-- k, s, t, d, c
 pub record Header : Type 0 where
   pub symbols : ℕ
   pub strings : ℕ
@@ -55,6 +56,7 @@ stepAt P j = let c = length (P .constraints) in cond (ltb j c) (getD (P .constra
 abbrev pub stepCount : Problem → ℕ
 stepCount P = length (P .constraints) + P .strings
 
+-- the bits struck, and the lent table afterwards
 pub record Stepped : Type 0 where
   pub struck : ℕ
   pub table : List ℕ
@@ -67,6 +69,7 @@ step r j T = onTable r T (λ P.
 
 -- ---- Settle
 
+-- the rounds, whether every variable has a value, and the lent table afterwards
 pub record Settlement : Type 0 where
   pub rounds : ℕ
   pub everyValue : Bool
@@ -80,6 +83,7 @@ settle r T = onTable r T (λ P.
 
 -- ---- Search
 
+-- the outcome with its count, and the lent room and answer table afterwards
 pub record Searched : Type 0 where
   pub outcome : Outcome
   pub room : List ℕ

@@ -32,6 +32,7 @@ unfoldable pub run : Problem → List Constraint → List ℕ → List ℕ
 run P [] T = T
 run P (c ∷ cs) T = run P cs (narrowed P c T)
 
+-- one round
 unfoldable pub round : Problem → List ℕ → List ℕ
 round P T = run P (steps P) T
 
@@ -54,9 +55,10 @@ settlingIn (suc f) P T =
     after (struck T U) U r
 
 -- "rounds follow one another until one strikes nothing": each round but the last strikes a bit, so there are at most one more than bits.
--- The equation a reader expects is `settling-step` (proofs/RoundLaws.antt): settling P T ≡ after (struck T U) U (settling P U) for U = round P T.
+-- The equation a reader expects is `settling-step` (crates/laws, RoundLaws): settling P T ≡ after (struck T U) U (settling P U) for U = round P T.
 unfoldable pub settling : Problem → List ℕ → Settled
 settling P T = settlingIn (suc (size T)) P T
 
+-- the table that the rounds leave
 abbrev pub settled : Problem → List ℕ → List ℕ
 settled P T = settling P T .table

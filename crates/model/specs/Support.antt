@@ -17,6 +17,7 @@ withText x γ w = record { text = λ y. cond (eqb x y) w (γ .text y); value = �
 abbrev pub withValue : ℕ → Choice → ℕ → Choice
 withValue n γ v = record { text = γ .text; value = λ m. cond (eqb n m) v (γ .value m) }
 
+-- the choice of no variable
 abbrev pub blank : Choice
 blank = record { text = λ x. []; value = λ n. 0 }
 

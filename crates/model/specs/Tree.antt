@@ -28,6 +28,7 @@ branchVariable P S = find (λ v. leb 2 (valueCount P S v)) (variablesOf P)
 unfoldable pub branchWord : Problem → List ℕ → Variable → Option ℕ
 branchWord P S v = find (λ i. several (word S i)) (wordsOf P v)
 
+-- the word in which a node branches
 unfoldable pub branch : Problem → List ℕ → Option ℕ
 branch P S = bind (branchVariable P S) (branchWord P S)
 
@@ -45,7 +46,7 @@ nodesIn zero P T = []
 nodesIn (suc f) P T = let S = settled P T in S ∷ flatMap (λ U. nodesIn f P U) (children P S)
 
 -- "Every node settles its table"; "Nodes are visited depth first, the root being the first": the settled tables of the whole tree's nodes, in the order of
--- the visit. A child has fewer bits than its node. The equation a reader expects is `nodes-step` (proofs/TreeLaws.antt):
+-- the visit. A child has fewer bits than its node. The equation a reader expects is `nodes-step` (crates/laws, TreeLaws):
 -- nodes P T ≡ settled P T ∷ flatMap (nodes P) (children P (settled P T)).
 unfoldable pub nodes : Problem → List ℕ → List (List ℕ)
 nodes P T = nodesIn (suc (size T)) P T
@@ -55,6 +56,7 @@ pub record Node : Type 0 where
   pub number : ℕ
   pub table : List ℕ
 
+-- the nodes with their numbers
 unfoldable pub numbered : List (List ℕ) → List Node
 numbered ns = mapFrom 1 (λ n S. record { number = n; table = S }) ns
 
@@ -66,6 +68,7 @@ firstSolved P ns = find (λ N. solved P (N .table)) (numbered ns)
 pub data Outcome : Type 0 where
   found none spent : ℕ → Outcome
 
+-- the outcome, and the answer table afterwards
 pub record Search : Type 0 where
   pub outcome : Outcome
   pub table : List ℕ
@@ -83,5 +86,5 @@ miss budget A count = record { outcome = cond (leb count budget) (none count) (s
 unfoldable pub searching : Problem → List ℕ → ℕ → List ℕ → Search
 searching P F budget A =
     let ns = nodes P F in
-    let no = miss budget A (length ns) in
-    Option·elim (firstSolved P ns) no (hit budget A)
+    let unsolved = miss budget A (length ns) in
+    Option·elim (firstSolved P ns) unsolved (hit budget A)
