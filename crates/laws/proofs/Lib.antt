@@ -3,6 +3,7 @@
 pub mod ListLaws
 pub mod WordLaws
 pub mod BitsLaws
+pub mod ShiftLaws
 pub mod TableLaws
 pub mod RowLaws
 pub mod DomainLaws

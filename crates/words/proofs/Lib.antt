@@ -1,0 +1,2 @@
+-- The laws of the words' ends.
+pub mod EndLaws

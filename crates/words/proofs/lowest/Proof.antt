@@ -1,0 +1,18 @@
+use native.Mathlib.Omega.{arith}
+use lib.Count.{trailing-le}
+use Rattle.words.proofs.EndLaws.{lowest-trailing}
+use Rattle.words.proofs.lowest.Statement.{statement}
+use Rattle.words.proofs.lowest.Tie as tie
+use Rattle.words.proofs.lowest.Reads as reads
+use Rattle.words.proofs.lowest.Lts as lts
+
+-- src/lib.rt:77:5
+cast-result : tie.Need-cast-result
+cast-result c = omega (arith, trailing-le 64 (c .args .w))
+
+-- src/lib.rt:73:1
+returns : tie.Need-returns
+returns c = lowest-trailing (c .args .w) (c .pre) (c .fits .w .fits)
+
+pub lowest-spec : {M : Type 1} → statement M
+lowest-spec = tie.close (tie.spec cast-result returns)

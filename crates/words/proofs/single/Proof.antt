@@ -1,0 +1,22 @@
+use mathlib.Core.Path.{_∙_}
+use Prim.Native.Nat.{_+_, _≤_, _^_}
+use native.Mathlib.Nat.{one-mul}
+use native.Mathlib.Omega.{arith}
+use lib.Dec.{lit<}
+use lib.Pow.{shl-exact}
+use borrow.Author.Needs.{needs}
+use Rattle.words.proofs.single.Statement.{statement}
+use Rattle.words.proofs.single.Tie as tie
+use Rattle.words.proofs.single.Reads as reads
+use Rattle.words.proofs.single.Lts as lts
+
+-- src/lib.rt:46:5
+shl-result : tie.Need-shl-result
+shl-result c = search needs
+
+-- src/lib.rt:42:1
+returns : tie.Need-returns
+returns c = let l : 1 + c .args .i ≤ 64 = omega arith in shl-exact 1 (c .args .i) 64 (lit< tt) l ∙ one-mul (2 ^ c .args .i)
+
+pub single-spec : {M : Type 1} → statement M
+single-spec = tie.close (tie.spec shl-result returns)
