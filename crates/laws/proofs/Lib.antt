@@ -9,6 +9,7 @@ pub mod RowLaws
 pub mod DomainLaws
 pub mod SupportLaws
 pub mod Supports
+pub mod PlaceLaws
 pub mod NeqLaws
 pub mod RoundLaws
 pub mod SolutionLaws

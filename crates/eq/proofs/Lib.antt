@@ -1,0 +1,2 @@
+-- The law of Eq.
+pub mod EqLaws

@@ -1,0 +1,6 @@
+-- The laws of rows by value: loops that fill a row; trimming; meets and joins; windows; rows and numbers as a table of their own.
+pub mod Fill
+pub mod TrimLaws
+pub mod MeetLaws
+pub mod Windows
+pub mod Alone
