@@ -1,17 +1,20 @@
--- Eq by support: the pairs of equal strings are the strings of the meet. Assumes nothing.
+-- Eq by support: the pairs of equal strings are the strings of the meet; and its rows put back into a table. Assumes nothing.
 use mathlib.Core.Path.{_≡_, refl, sym, ap, subst, _∙_}
+use mathlib.Core.Logic.{_≢_}
 use mathlib.Core.List.{List, [], _++_}
-use Prim.Native.Nat.{ℕ}
+use Prim.Native.Nat.{ℕ, _<_}
 use lib.ListN.{length}
 use Rattle.model.specs.Lists.{same}
 use Rattle.model.specs.Words.{Words}
-use Rattle.model.specs.Constraints.{eq, variables, meets}
+use Rattle.model.specs.Domains.{row}
+use Rattle.model.specs.Constraints.{Problem, eq, width, variables, meets}
 use Rattle.model.specs.Solutions.{textBit}
 use Rattle.model.specs.Support.{narrowed}
-use Rattle.rows.specs.Rows.{alone, trimmed, met}
+use Rattle.rows.specs.Rows.{alone, trimmed, met, stored}
 use Rattle.rows.proofs.TrimLaws.{trimmed-supports}
 use Rattle.rows.proofs.MeetLaws.{met-length, met-words, in-met, of-met}
 use Rattle.rows.proofs.Alone.{Two, Met, two-narrowed}
+use Rattle.rows.proofs.PlacedKinds.{placed-two}
 use Rattle.laws.proofs.ListLaws.{same-true, same-refl}
 use Rattle.laws.proofs.RowLaws.{InRow, short-of}
 use Rattle.laws.proofs.Supports.{Supports, moved-support}
@@ -32,3 +35,9 @@ module _ (x y : List ℕ) (lx : length x ≡ 64) (ly : length y ≡ 64) (bx : Wo
   pub eq-narrowed : trimmed (met x y) ++ trimmed (met x y) ≡ narrowed (alone 2 0 []) (eq 0 1) (x ++ y)
   unfolding variables meets
   eq-narrowed = two-narrowed (eq 0 1) same refl (λ α. refl) x y lx ly bx bY (trimmed (met x y)) (trimmed (met x y)) (side (λ p. p .first) (λ w. refl)) (side (λ p. p .second) (λ w. refl))
+
+-- the rows that `narrow` gives, put back into a table, make the narrowed table
+pub eq-placed : (P : Problem) (i j : ℕ) → j ≢ i → i < P .strings → j < P .strings → (T : List ℕ) → length T ≡ width P → (rx ry : List ℕ) → length rx ≡ 64 → length ry ≡ 64
+    → rx ++ ry ≡ narrowed (alone 2 0 []) (eq 0 1) (row T i ++ row T j) → stored (stored T i rx) j ry ≡ narrowed P (eq i j) T
+unfolding variables meets
+eq-placed P i j n hi hj = placed-two P (eq i j) (eq 0 1) i j n hi hj refl refl (λ α. refl)

@@ -10,6 +10,7 @@ pub mod DomainLaws
 pub mod SupportLaws
 pub mod Supports
 pub mod PlaceLaws
+pub mod RenameLaws
 pub mod NeqLaws
 pub mod RoundLaws
 pub mod SolutionLaws

@@ -4,3 +4,6 @@ pub mod TrimLaws
 pub mod MeetLaws
 pub mod Windows
 pub mod Alone
+pub mod StoreLaws
+pub mod Placed
+pub mod PlacedKinds
