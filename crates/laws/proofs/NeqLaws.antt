@@ -53,6 +53,9 @@ differ-self x = rw (eq-eqb (length x) (length x) refl) (go (any (λ j. not (eqb 
         absurd (false≢true (ap not (sym (eq-eqb (getD x (u .0) 0) (getD x (u .0) 0) refl)) ∙ u .2))
     go false e = refl
 
+pub differ-sym : (w u : List ℕ) → differ w u ≡ true → differ u w ≡ true
+differ-sym w u e = differ-true u w (λ q. false≢true (sym (differ-self w) ∙ ap (differ w) (sym q) ∙ e))
+
 -- w for string x, and v for every other
 pair : ℕ → List ℕ → List ℕ → Choice
 pair x w v = record { text = λ z. cond (eqb z x) w v; value = λ n. 0 }

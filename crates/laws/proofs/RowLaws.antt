@@ -107,6 +107,12 @@ strings-sub r s h w m = let o = of-strings r w m in in-strings s w (in-wider r s
 
 -- ---- the bits that a string uses
 
+-- a string's bit in the first word is that of its length
+pub length-pow : (w : List ℕ) (i : ℕ) → i < 1 → textBit w i ≡ 2 ^ length w
+unfolding textBit
+length-pow w zero h = refl
+length-pow w (suc i) h = absurd (omega arith)
+
 pub length-used : (w : List ℕ) → bit (textBit w 0) (length w) ≡ true
 unfolding textBit
 length-used w = pow-self (length w)

@@ -1,6 +1,6 @@
--- Laws of words under intersection, shifts and masks, bit by bit. Assumes nothing.
+-- Laws of words under intersection, shifts, masks and complement, bit by bit. Assumes nothing.
 use mathlib.Core.Path.{_≡_, refl, sym, ap, _∙_}
-use mathlib.Core.Bool.{Bool, true, false, _&&_}
+use mathlib.Core.Bool.{Bool, true, false, _&&_, not}
 use Prim.Native.Nat.{ℕ, zero, suc, _+_, _-_, _*_, _/_, _%_, _^_, _≤_, _<_, suc-le-suc}
 use native.Mathlib.Nat.{zero-lt-suc, mul-assoc, mul-mod-left, pow-suc}
 use native.Mathlib.Omega.{arith}
@@ -9,7 +9,8 @@ use lib.Pow.{pow-pos, pow-add, shr-shr, shl-shr, high, ones-split, ones-lt}
 use lib.Bits.{bitAnd, and-shr, and-mod, and-mask}
 use borrow.Author.Tests.{le-leb, lt-leb, lt-ltb, le-ltb}
 use Rattle.model.specs.Words.{bit}
-use Rattle.laws.proofs.WordLaws.{bit-high}
+use Rattle.laws.proofs.WordLaws.{bit-high, digit, bit-lowest, bit-suc}
+use mathlib.Core.Logic.{_⊎_, inl, inr}
 
 and-digit : (d e : ℕ) → d < 2 → e < 2 → eqb (bitAnd d e) 1 ≡ (eqb d 1 && eqb e 1)
 and-digit zero zero h k = refl
@@ -99,3 +100,21 @@ bit-shl w k i = go (order k i)
     go (more h) =
         let e : k ≡ suc (k - suc i) + i = omega arith in
         rw (lt-leb k i h) (rw e (shifted-past w (k - suc i) i))
+
+-- ---- the complement
+
+flip-digit : (a b : ℕ) → (b ≡ 0) ⊎ (b ≡ 1) → a ≡ 1 - b → eqb a 1 ≡ not (eqb b 1)
+flip-digit a b (inl p) e = rw (e, p)
+flip-digit a b (inr p) e = rw (e, p)
+
+-- a word of k bits has the other bits than its complement
+pub bit-flip : (k w i : ℕ) → w < 2 ^ k → i < k → bit (2 ^ k - 1 - w) i ≡ not (bit w i)
+bit-flip zero w i h l = absurd (omega arith)
+bit-flip (suc k) w zero h l =
+    let q : 2 ^ suc k ≡ 2 ^ k * 2 = pow-suc 2 k in
+    let e : (2 ^ suc k - 1 - w) % 2 ≡ 1 - w % 2 = omega arith in
+    bit-lowest (2 ^ suc k - 1 - w) ∙ flip-digit ((2 ^ suc k - 1 - w) % 2) (w % 2) (digit w) e ∙ ap not (sym (bit-lowest w))
+bit-flip (suc k) w (suc i) h l =
+    let q : 2 ^ suc k ≡ 2 ^ k * 2 = pow-suc 2 k in
+    let e : (2 ^ suc k - 1 - w) / 2 ≡ 2 ^ k - 1 - w / 2 = omega arith in
+    bit-suc (2 ^ suc k - 1 - w) i ∙ ap (λ (a : ℕ). bit a i) e ∙ bit-flip k (w / 2) i (omega arith) (omega arith) ∙ ap not (sym (bit-suc w i))

@@ -5,7 +5,7 @@ use mathlib.Core.Path.{_≡_, refl, sym, ap, subst, _∙_}
 use mathlib.Core.Logic.{_⊎_, inl, inr, ⊎-elim}
 use mathlib.Core.Bool.{Bool, true, false, _||_, false≢true}
 use mathlib.Core.List.{List, [], _∷_, map, List·Memᴰ·head}
-use Prim.Native.Nat.{ℕ, suc, _+_, _*_, _^_, _≤_, _<_}
+use Prim.Native.Nat.{ℕ, suc, _+_, _*_, _^_, _≤_, _<_, zero}
 use native.Mathlib.Omega.{arith}
 use lib.Bits.{bitOr}
 use lib.Dec.{eqb}
@@ -58,6 +58,14 @@ moved-support A B f g n r there back s = record {
   complete = λ i b h w ok e.
       let v = back w ok in
       s .complete i b h (v .0) (v .1) (ap (λ (u : ℕ). bit u b) (v .2 i h) ∙ e);
+}
+
+-- the first word on its own
+pub first-word-supports : {K : Type 0} (Ok : K → Type 0) (bitsOf : K → ℕ → ℕ) (n : ℕ) (r : List ℕ) → 0 < n → Supports Ok bitsOf n r → Supports Ok bitsOf 1 (word r 0 ∷ [])
+first-word-supports Ok bitsOf n r h s = record {
+  count = refl;
+  sound = elim [ zero ↦ λ b k e. s .sound 0 b h e | suc i ↦ λ b k e. absurd (omega arith) ];
+  complete = elim [ zero ↦ λ b k v ok e. s .complete 0 b h v ok e | suc i ↦ λ b k v ok e. absurd (omega arith) ];
 }
 
 -- ---- unions

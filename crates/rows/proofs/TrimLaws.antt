@@ -21,7 +21,7 @@ use Rattle.rows.proofs.Fill.{tabulated-length, tabulated-word}
 use Rattle.laws.proofs.ListLaws.{In, getD-in, and-true, true-and}
 use Rattle.laws.proofs.WordLaws.{zero-bit, no-bits, of-bits, in-bits}
 use Rattle.laws.proofs.ShiftLaws.{bit-and, bit-mask}
-use Rattle.laws.proofs.RowLaws.{InRow, of-strings, in-strings, short-of, length-used, symbol-used, symbol-inside, used-symbol, used-length}
+use Rattle.laws.proofs.RowLaws.{InRow, of-strings, in-strings, short-of, length-used, symbol-used, symbol-inside, used-symbol, used-length, within-used}
 use Rattle.laws.proofs.SupportLaws.{narrowed-length}
 use Rattle.laws.proofs.Supports.{Supports, one-support, none-support, moved-support, trim-support}
 
@@ -50,6 +50,10 @@ trimmed-supports r e bd =
     (λ w m. (w, strings-allowed r bd w (subst (λ (z : List ℕ). In w (strings z)) (whole-row r e) m), λ i h. refl))
     (λ w i. (w, subst (λ (z : List ℕ). In w (strings z)) (sym (whole-row r e)) (allowed-strings r bd w i), λ j h. refl))
     (subst (Supports (λ w. In w (stringsOf r 0)) textBit 64) q (trim-support (alone 1 0 []) r 0 (omega arith) (omega arith)))
+
+-- a row that supports the strings of another allows each of them
+pub supported-in : (y v : List ℕ) → Words y → Supports (InRow y) textBit 64 v → (w : List ℕ) → InRow y w → InRow v w
+supported-in y v bd s w i = within-used v w (λ j h b e. let k = short-of y bd w i .length-short in s .complete j b (omega arith) w i e)
 
 -- ---- strings of a row, made from a symbol at each place
 

@@ -1,0 +1,2 @@
+-- The law of Len.
+pub mod LenLaws

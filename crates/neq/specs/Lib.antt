@@ -1,0 +1,2 @@
+-- The definitions that the contracts of `neq` cite.
+pub mod Others

@@ -1,0 +1,85 @@
+// Neq(X, Y): some difference in length or at some place.
+//
+// Assumes nothing, and requires nothing of its rows.
+ghost use mathlib.Core.Path.{_≡_};
+ghost use mathlib.Core.Bool.{not};
+ghost use mathlib.Core.List.{[], _++_};
+ghost use Prim.Native.Nat.{_<_, _≤_};
+ghost use Rattle.model.specs.Lists.{any};
+ghost use Rattle.model.specs.Words.{several};
+ghost use Rattle.model.specs.Constraints.{neq};
+ghost use Rattle.model.specs.Solutions.{textBit};
+ghost use Rattle.model.specs.Support.{narrowed};
+ghost use Rattle.laws.proofs.Supports.{Supports};
+ghost use Rattle.rows.specs.Rows.{alone};
+ghost use Rattle.neq.specs.Others.{Against, differingAt, otherThan};
+
+// The rows of X and Y.
+pub struct Rows {
+    pub x: [u64; 64],
+    pub y: [u64; 64],
+}
+
+// Whether no word has two bits: a trimmed row that has a string stands for that one alone.
+fn single(v: [u64; 64]) -> bool
+    ensures { λ r. ⌜ r ≡ not (any several v) ⌝ }
+{
+    let mut i: usize = 0;
+    while i < 64 {
+        if words::count(v[i]) >= 2 {
+            return false;
+        }
+        i += 1;
+    }
+    true
+}
+
+// The strings of x that differ from v's one string in word i: in their length, or, where they are as long, in the symbol at place i.
+fn differing_at(x: [u64; 64], v: [u64; 64], i: usize) -> [u64; 64]
+    requires { ⌜ i < 64 ⌝ }
+    ensures { λ r. ⌜ r ≡ differingAt x v i ⌝ }
+{
+    let mut r = x;
+    r[0] = x[0] & v[0];
+    r[i] = x[i] & !v[i];
+    r
+}
+
+// What those strings of x use that differ from v's one string in one of the first n words: a union of n trimmed rows.
+fn other_than(x: [u64; 64], v: [u64; 64], n: usize) -> [u64; 64]
+    requires { ⌜ n ≤ 64 ⌝ }
+    ensures { λ r. ⌜ r ≡ otherThan x v n ⌝ }
+{
+    let mut r = [0u64; 64];
+    let mut t: usize = 0;
+    while t < n {
+        let more = rows::join(rows::trim(differing_at(x, v, t)), r);
+        r = more;
+        t += 1;
+    }
+    r
+}
+
+// What Neq leaves of x against y.
+fn side(x: [u64; 64], y: [u64; 64]) -> [u64; 64]
+    ensures { λ r. ⌜ Supports (Against x y) textBit 64 r ⌝ }
+{
+    let v = rows::trim(y);
+    if v[0] == 0 {
+        return [0u64; 64];
+    }
+    if single(v) {
+        return other_than(x, v, words::highest(v[0]) + 1);
+    }
+    rows::trim(x)
+}
+
+// One narrowing step: each side loses something beyond trimming only when the other stands for one string or for none.
+pub fn narrow(x: [u64; 64], y: [u64; 64]) -> Rows
+    ensures { λ r. ⌜ r .x ++ r .y ≡ narrowed (alone 2 0 []) (neq 0 1) (x ++ y) ⌝ }
+{
+    Rows {
+        x: side(x, y),
+        y: side(y, x),
+    }
+}

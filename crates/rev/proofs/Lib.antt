@@ -1,0 +1,2 @@
+-- The law of Rev.
+pub mod RevLaws

@@ -1,0 +1,2 @@
+-- The definitions that the contracts of `rev` cite.
+pub mod Turned
