@@ -5,9 +5,9 @@ use mathlib.Core.List.{List, [], _∷_, map, List·Memᴰ·head, List·Memᴰ·t
 use mathlib.Core.Option.{some, Option·none-ne-some, Option·some-injective}
 use Prim.Native.Nat.{ℕ, zero, suc, _+_, _-_, _*_, _^_, _<_}
 use native.Mathlib.Omega.{arith}
-use native.Mathlib.Nat.{pow-suc}
+use native.Mathlib.Nat.{pow-suc, suc-mul, zero-mul}
 use lib.ListN.{length, getD, take, drop, getElem?, length-map, List·getD-map}
-use lib.Seq.{getD-drop}
+use lib.Seq.{getD-drop, drop-drop, getD-take}
 use borrow.Author.Tests.{ltb-true, not-true, eq-eqb}
 use Rattle.model.specs.Lists.{any}
 use Rattle.model.specs.Words.{bit, word, Words}
@@ -57,6 +57,17 @@ pub pieces-length : (m n : ℕ) (bs : List ℕ) → length (pieces m n bs) ≡ m
 unfolding pieces
 pieces-length zero n bs = refl
 pieces-length (suc m) n bs = ap suc (pieces-length m n (drop n bs))
+
+pub pieces-at : (m n : ℕ) (bs : List ℕ) (i : ℕ) → i < m → getD (pieces m n bs) i [] ≡ take n (drop (i * n) bs)
+unfolding pieces
+pieces-at zero n bs i h = absurd (omega arith)
+pieces-at (suc m) n bs zero h = let e : 0 ≡ 0 * n = omega (arith, zero-mul n) in ap (λ (j : ℕ). take n (drop j bs)) e
+pieces-at (suc m) n bs (suc i) h =
+    let e : n + i * n ≡ suc i * n = omega (arith, suc-mul i n) in
+    pieces-at m n (drop n bs) i (omega arith) ∙ ap (take n) (drop-drop (i * n) n bs) ∙ ap (λ (j : ℕ). take n (drop j bs)) e
+
+pub pieces-word : (m n : ℕ) (bs : List ℕ) (i j : ℕ) → i < m → j < n → getD (getD (pieces m n bs) i []) j 0 ≡ getD bs (i * n + j) 0
+pieces-word m n bs i j h l = ap (λ (p : List ℕ). getD p j 0) (pieces-at m n bs i h) ∙ getD-take n (drop (i * n) bs) j 0 l ∙ getD-drop (i * n) bs j 0
 
 words-pieces : (m : ℕ) (bs : List ℕ) → Bytes bs → Words (map little (pieces m 8 bs))
 unfolding little

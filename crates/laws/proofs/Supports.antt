@@ -3,7 +3,7 @@
 -- laws put the parts together, so that a step's proof only says which choices its parts stand for. Assumes nothing.
 use mathlib.Core.Path.{_≡_, refl, sym, ap, subst, _∙_}
 use mathlib.Core.Logic.{_⊎_, inl, inr, ⊎-elim}
-use mathlib.Core.Bool.{Bool, true, false, _||_, false≢true}
+use mathlib.Core.Bool.{Bool, true, false, false≢true}
 use mathlib.Core.List.{List, [], _∷_, map, List·Memᴰ·head}
 use Prim.Native.Nat.{ℕ, suc, _+_, _*_, _^_, _≤_, _<_, zero}
 use native.Mathlib.Omega.{arith}
@@ -19,7 +19,7 @@ use Rattle.model.specs.Constraints.{Problem, Constraint, always, variables, mee
 use Rattle.model.specs.Solutions.{textBit}
 use Rattle.model.specs.Support.{narrowed}
 use Rattle.laws.proofs.ListLaws.{In, from-length, from-getD}
-use Rattle.laws.proofs.WordLaws.{bit-or, zero-bit, within-antisym}
+use Rattle.laws.proofs.WordLaws.{zero-bit, within-antisym, or-bit-left, or-bit-right, of-or-bit}
 use Rattle.laws.proofs.DomainLaws.{row-word, row-length, used-text, used-value, InDomain}
 use Rattle.laws.proofs.SupportLaws.{Supporting, stays, stays-only, touched-text, touched-value, narrowed-length}
 
@@ -82,16 +82,10 @@ pub orWords-word : (n : ℕ) (r s : List ℕ) (i : ℕ) → i < n → word (orWo
 unfolding orWords
 orWords-word n r s i h = let q : 0 + i ≡ i = omega arith in from-getD (λ i. bitOr (word r i) (word s i)) 0 n i 0 h ∙ ap (λ (k : ℕ). bitOr (word r k) (word s k)) q
 
-or-left : (a b : Bool) → a ≡ true → (a || b) ≡ true
-or-left a b e = rw e
-
-or-right : (a b : Bool) → b ≡ true → (a || b) ≡ true
-or-right true b e = refl
-or-right false b e = e
-
-or-cases : (a b : Bool) → (a || b) ≡ true → (a ≡ true) ⊎ (b ≡ true)
-or-cases true b e = inl refl
-or-cases false b e = inr e
+-- of one word each
+pub or-one : (a b : ℕ) → bitOr a b ∷ [] ≡ orWords 1 (a ∷ []) (b ∷ [])
+unfolding orWords from
+or-one a b = refl
 
 -- choices of one kind or of another
 pub either-support : {K : Type 0} (A B : K → Type 0) (bitsOf : K → ℕ → ℕ) (n : ℕ) (r s : List ℕ) → Supports A bitsOf n r → Supports B bitsOf n s
@@ -101,15 +95,12 @@ either-support A B bitsOf n r s p q = record {
   sound = λ i b h e. ⊎-elim
       (λ x. let t = p .sound i b h x in (t .0, inl (t .1), t .2))
       (λ x. let t = q .sound i b h x in (t .0, inr (t .1), t .2))
-      (or-cases (bit (word r i) b) (bit (word s i) b) (sym (at i b h) ∙ e));
-  complete = λ i b h v ok e. at i b h ∙ ⊎-elim
-      (λ x. or-left (bit (word r i) b) (bit (word s i) b) (p .complete i b h v x e))
-      (λ x. or-right (bit (word r i) b) (bit (word s i) b) (q .complete i b h v x e))
+      (of-or-bit (word r i) (word s i) b (ap (λ (w : ℕ). bit w b) (sym (orWords-word n r s i h)) ∙ e));
+  complete = λ i b h v ok e. ap (λ (w : ℕ). bit w b) (orWords-word n r s i h) ∙ ⊎-elim
+      (λ x. or-bit-left (word r i) (word s i) b (p .complete i b h v x e))
+      (λ x. or-bit-right (word r i) (word s i) b (q .complete i b h v x e))
       ok;
 }
-  where
-    at : (i b : ℕ) → i < n → bit (word (orWords n r s) i) b ≡ (bit (word r i) b || bit (word s i) b)
-    at i b h = ap (λ (w : ℕ). bit w b) (orWords-word n r s i h) ∙ bit-or (word r i) (word s i) b
 
 -- choices of the kinds below m: a loop over the kinds
 abbrev pub OfKinds : {K : Type 0} → (ℕ → K → Type 0) → ℕ → K → Type 0

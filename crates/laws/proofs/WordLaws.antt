@@ -10,7 +10,7 @@ use lib.Arith.{bin-ind}
 use lib.Bits.{bitOr, or-shr, or-mod}
 use lib.Pow.{shr-shr, pow-mono}
 use lib.Dec.{eqb, ltb, eqb·zero-suc, eqb·suc-zero, eqb·suc-suc}
-use borrow.Author.Tests.{ltb-true, ltb-false, eqb-true, eq-eqb}
+use borrow.Author.Tests.{ltb-true, ltb-false, eqb-true, eq-eqb, lt-ltb}
 use Rattle.model.specs.Lists.{any}
 use Rattle.model.specs.Words.{bit, bits, noneFrom, union}
 use Rattle.laws.proofs.ListLaws.{In, Sub, of-select, in-select, of-all, in-all, of-upto, in-upto}
@@ -42,6 +42,24 @@ bit-or a c b = ap (λ (x : ℕ). eqb (x % 2) 1) (or-shr a c b) ∙ ap (λ (x : �
     go x y (inl p) (inr q) = rw (p, q)
     go x y (inr p) (inl q) = rw (p, q)
     go x y (inr p) (inr q) = rw (p, q)
+
+-- a bit of a union of two words lies in one of them
+pub or-bit-left : (a c b : ℕ) → bit a b ≡ true → bit (bitOr a c) b ≡ true
+or-bit-left a c b e = bit-or a c b ∙ rw e
+
+pub or-bit-right : (a c b : ℕ) → bit c b ≡ true → bit (bitOr a c) b ≡ true
+or-bit-right a c b e = bit-or a c b ∙ go (bit a b) e
+  where
+    go : (t : Bool) → bit c b ≡ true → (t || bit c b) ≡ true
+    go true q = refl
+    go false q = q
+
+pub of-or-bit : (a c b : ℕ) → bit (bitOr a c) b ≡ true → (bit a b ≡ true) ⊎ (bit c b ≡ true)
+of-or-bit a c b e = go (bit a b) refl (sym (bit-or a c b) ∙ e)
+  where
+    go : (t : Bool) → bit a b ≡ t → (t || bit c b) ≡ true → (bit a b ≡ true) ⊎ (bit c b ≡ true)
+    go true p q = inl p
+    go false p q = inr q
 
 pub zero-bit : (b : ℕ) → bit 0 b ≡ false
 unfolding bit
@@ -135,6 +153,11 @@ bit-high w n b h q = go (ltb b n) refl
 pub noneFrom-bits : (n w : ℕ) → noneFrom n w ≡ true → (b : ℕ) → In b (bits w) → b < n
 unfolding noneFrom
 noneFrom-bits n w e b m = ltb-true b n (of-all (λ b. ltb b n) e m)
+
+-- with 64 symbols every word will do
+pub noneFrom-all : (w : ℕ) → noneFrom 64 w ≡ true
+unfolding noneFrom
+noneFrom-all w = in-all (λ b. ltb b 64) (bits w) (λ b m. lt-ltb b 64 (of-bits w m .1))
 
 pub noneFrom-within : (n w v : ℕ) → Within w v → noneFrom n v ≡ true → noneFrom n w ≡ true
 unfolding noneFrom

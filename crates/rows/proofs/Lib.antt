@@ -2,8 +2,10 @@
 pub mod Fill
 pub mod TrimLaws
 pub mod MeetLaws
+pub mod ChoiceLaws
 pub mod Windows
 pub mod Alone
+pub mod OneString
 pub mod StoreLaws
 pub mod Placed
 pub mod PlacedKinds

@@ -88,11 +88,19 @@ placed-two P c d i j n hi hj vc vd same T ln rx ry lx ly e =
     T ln (rx ∷ ry ∷ []) [] refl refl (elim [ zero ↦ λ h. lx | suc z ↦ elim z [ zero ↦ λ h. ly | suc y ↦ λ h. absurd (omega arith) ] ])
     (ap (λ (r : List ℕ). rx ++ r) (append-nil ry) ∙ e ∙ ap (λ (r : List ℕ). narrowed (alone 2 0 []) d (row T i ++ r)) (sym (append-nil (row T j))))
 
+-- ---- relations on one string
+
+pub placed-one : (P : Problem) (c d : Constraint) (ds : List Automaton) (x : ℕ) → x < P .strings → variables c ≡ str x ∷ [] → variables d ≡ str 0 ∷ []
+    → ((α : Choice) → meets P c α ≡ meets (alone 1 0 ds) d (pulled (places (x ∷ []) []) α)) → (T : List ℕ) → length T ≡ width P → (r : List ℕ) → r ≡ narrowed (alone 1 0 ds) d (row T x)
+    → stored T x r ≡ narrowed P c T
+unfolding storedAll setAll variablesOf alone upto from
+placed-one P c d ds x h vc vd same T ln r e =
+    let l : length r ≡ 64 = ap length e ∙ narrowed-length (alone 1 0 ds) d (row T x) ∙ row-length T x (omega arith) in
+    placed P c d ds (x ∷ []) [] (named-kind P c d ds (x ∷ []) [] vc vd same (one-below (P .strings) h) (none-below (P .numbers)) (one-distinct x) tt)
+    T ln (r ∷ []) [] refl refl (elim [ zero ↦ λ k. l | suc z ↦ λ k. absurd (omega arith) ])
+    (append-nil r ∙ e ∙ ap (λ (t : List ℕ). narrowed (alone 1 0 ds) d t) (sym (append-nil (row T x))))
+
 -- a string trimmed alone
 pub trim-placed : (P : Problem) (x : ℕ) → x < P .strings → (T : List ℕ) → length T ≡ width P → stored T x (trimmed (row T x)) ≡ narrowed P (always x) T
-unfolding storedAll setAll variablesOf alone upto from variables meets trimmed
-trim-placed P x h T ln =
-    let l : length (trimmed (row T x)) ≡ 64 = narrowed-length (alone 1 0 []) (always 0) (row T x) ∙ row-length T x (omega arith) in
-    placed P (always x) (always 0) [] (x ∷ []) [] (named-kind P (always x) (always 0) [] (x ∷ []) [] refl refl (λ α. refl) (one-below (P .strings) h) (none-below (P .numbers)) (one-distinct x) tt)
-    T ln (trimmed (row T x) ∷ []) [] refl refl (elim [ zero ↦ λ k. l | suc z ↦ λ k. absurd (omega arith) ])
-    (append-nil (trimmed (row T x)) ∙ ap (λ (r : List ℕ). narrowed (alone 1 0 []) (always 0) r) (sym (append-nil (row T x))))
+unfolding variables meets trimmed
+trim-placed P x h T ln = placed-one P (always x) (always 0) [] x h refl refl (λ α. refl) T ln (trimmed (row T x)) refl

@@ -5,7 +5,7 @@ use mathlib.Core.List.{List, [], _∷_, map}
 use Prim.Native.Nat.{ℕ, zero, suc, _+_, _-_, _^_, _≤_, _<_}
 use native.Mathlib.Omega.{arith}
 use lib.Dec.{eqb, ltb}
-use lib.ListN.{length, getD, replicate}
+use lib.ListN.{length, getD, replicate, List·getD-eq-default}
 use lib.Bits.{bitAnd}
 use lib.Seq.{take-all}
 use borrow.Author.Tests.{lt-ltb, ltb-true, ltb-false, eqb-true, eq-eqb}
@@ -21,7 +21,7 @@ use Rattle.rows.proofs.Fill.{tabulated-length, tabulated-word}
 use Rattle.laws.proofs.ListLaws.{In, getD-in, and-true, true-and}
 use Rattle.laws.proofs.WordLaws.{zero-bit, no-bits, of-bits, in-bits}
 use Rattle.laws.proofs.ShiftLaws.{bit-and, bit-mask}
-use Rattle.laws.proofs.RowLaws.{InRow, of-strings, in-strings, short-of, length-used, symbol-used, symbol-inside, used-symbol, used-length, within-used}
+use Rattle.laws.proofs.RowLaws.{InRow, of-strings, in-strings, short-of, length-used, symbol-used, symbol-inside, used-symbol, used-length, within-used, used-within}
 use Rattle.laws.proofs.SupportLaws.{narrowed-length}
 use Rattle.laws.proofs.Supports.{Supports, one-support, none-support, moved-support, trim-support}
 
@@ -54,6 +54,26 @@ trimmed-supports r e bd =
 -- a row that supports the strings of another allows each of them
 pub supported-in : (y v : List ℕ) → Words y → Supports (InRow y) textBit 64 v → (w : List ℕ) → InRow y w → InRow v w
 supported-in y v bd s w i = within-used v w (λ j h b e. let k = short-of y bd w i .length-short in s .complete j b (omega arith) w i e)
+
+-- ---- a trimmed row stands for the same strings
+
+module _ (r : List ℕ) (ln : length r ≡ 64) (bd : Words r) where
+  -- a trimmed row has no bit that the row lacks
+  pub trimmed-bit : (i b : ℕ) → bit (word (trimmed r) i) b ≡ true → bit (word r i) b ≡ true
+  trimmed-bit i b e = go (ltb i 64) refl
+    where
+      go : (t : Bool) → ltb i 64 ≡ t → bit (word r i) b ≡ true
+      go true q = let u = trimmed-supports r ln bd .sound i b (ltb-true i 64 q) e in used-within r (u .0) (u .1) i b (u .2)
+      go false q =
+          let h = ltb-false i 64 q in
+          let l = trimmed-length r in
+          absurd (false≢true (sym (zero-bit b) ∙ ap (λ (a : ℕ). bit a b) (sym (List·getD-eq-default (trimmed r) 0 (omega arith))) ∙ e))
+
+  pub of-trimmed : (w : List ℕ) → InRow (trimmed r) w → InRow r w
+  of-trimmed w i = record { length-bit = trimmed-bit 0 (length w) (i .length-bit); symbol-bits = λ j h. trimmed-bit (suc j) (getD w j 0) (i .symbol-bits j h) }
+
+  pub in-trimmed : (w : List ℕ) → InRow r w → InRow (trimmed r) w
+  in-trimmed w i = supported-in r (trimmed r) bd (trimmed-supports r ln bd) w i
 
 -- ---- strings of a row, made from a symbol at each place
 

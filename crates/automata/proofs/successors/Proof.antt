@@ -1,0 +1,65 @@
+use mathlib.Core.Path.{sym, _∙_}
+use mathlib.Core.Logic.{⊎-elim}
+use Prim.Native.Nat.{_-_, _≤_}
+use native.Mathlib.Omega.{arith}
+use Rattle.automata.specs.Machine.{stateCount, machine}
+use Rattle.automata.specs.Sets.{Successors}
+use Rattle.automata.proofs.SetLaws.{gathered-none, gathered-upto, successors-skip, successors-add}
+use borrow.Author.Needs.{needs}
+use Rattle.automata.proofs.successors.Statement.{statement}
+use Rattle.automata.proofs.successors.Tie as tie
+use Rattle.automata.proofs.successors.Reads as reads
+use Rattle.automata.proofs.successors.Lts as lts
+use Rattle.automata.proofs.targets.Reads as targets-reads
+use Rattle.words.proofs.has.Reads as has-reads
+
+abbrev Inv-loop : tie.InvT-loop
+Inv-loop d k set symbols r₀ a₀ r a = (a ≤ k) × Successors (machine k d) (stateCount d) a set symbols r
+
+abbrev μ-loop : tie.MeasureT-loop
+μ-loop d k set symbols r₀ a₀ r a = k - a
+
+loop-holds : tie.Need-loop-holds Inv-loop μ-loop
+loop-holds c = (search needs, gathered-none _)
+
+has-requires : tie.Need-has-requires Inv-loop μ-loop
+has-requires c κs = search needs
+
+targets-requires : tie.Need-targets-requires Inv-loop μ-loop
+targets-requires c κs = search needs
+
+add-a : tie.Need-add-a Inv-loop μ-loop
+add-a c = search needs
+
+loop-less : tie.Need-loop-less Inv-loop μ-loop
+loop-less c = search needs
+
+loop-again : tie.Need-loop-again Inv-loop μ-loop
+loop-again c =
+    let l = c .before .before .before .loop in
+    let h = c .before .has .ensures in (
+      search needs,
+      ⊎-elim
+          (λ w. successors-add _ _ _ _ _ _ _ _ (l .inv .1) (sym h ∙ w .0 .taken) (w .1 .ensures) (w .2))
+          (λ w. successors-skip _ _ _ _ _ _ _ (l .inv .1) (sym h ∙ w .0 .left) (w .1))
+          (c .if1 .came),
+    )
+
+returns : tie.Need-returns Inv-loop μ-loop
+returns c =
+    let l = c .before .loop in
+    gathered-upto _ _ _ _ (omega arith) (l .inv .1)
+
+pub successors-spec : {M : Type 1} → statement M
+successors-spec =
+    tie.close
+    (tie.spec
+    Inv-loop
+    μ-loop
+    loop-holds
+    has-requires
+    targets-requires
+    add-a
+    loop-less
+    loop-again
+    returns)

@@ -1,0 +1,3 @@
+-- The definitions that the contracts of `automata` cite.
+pub mod Machine
+pub mod Sets

@@ -1,0 +1,2 @@
+-- The definitions that the contracts of `cat` cite.
+pub mod Splits

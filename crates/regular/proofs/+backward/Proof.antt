@@ -1,0 +1,293 @@
+use Prim.Native.Nat.{ℕ, _<_}
+use native.Mathlib.Omega.{arith}
+use borrow.Author.Needs.{needs}
+use mathlib.Core.Path.{refl, sym, _∙_}
+use Rattle.rows.proofs.Fill.{array-words}
+use Rattle.automata.specs.Machine.{stateCount, machine}
+use Rattle.automata.proofs.MachineLaws.{machine-accepting}
+use Rattle.regular.proofs.StateLaws.{machine-suited, backward-last, backward-next}
+use borrow.Fn.Kinds.{In}
+use borrow.Fn.PlainCycle.{Measures, is, falls, and}
+use Rattle.regular.proofs.backward.Reads as backward
+use Rattle.regular.proofs.backward.Kinds as backward-kinds
+use Rattle.regular.proofs.+backward.Lts-backward as backward-lts
+use Rattle.automata.proofs.accepting.Reads as accepting-reads
+use Rattle.automata.proofs.predecessors.Reads as predecessors-reads
+use Rattle.regular.proofs.ending.Reads as ending-reads
+use Rattle.regular.proofs.+backward.{statement}
+use Rattle.regular.proofs.+backward.Tie.{close}
+
+abbrev μ-backward : Measures 1 backward-kinds.ps ℕ
+μ-backward κs a = a .1 .1 .1 .0
+
+abbrev backward-at : ℕ → In 1 backward-kinds.ps
+backward-at t = and 1 backward-kinds.ps (is 1 backward-kinds.ps μ-backward t) backward.Pre
+
+abbrev backward-below : ℕ → In 1 backward-kinds.ps
+backward-below t =
+    and 1 backward-kinds.ps (falls 1 backward-kinds.ps _<_ μ-backward t) backward.Pre
+
+backward-sub-i : (t : ℕ) → backward-lts.Need-sub-i (
+  accepting-reads.Asked,
+  accepting-reads.Learnt,
+  ending-reads.Asked,
+  ending-reads.Learnt,
+  backward-below t,
+  backward.Post,
+  predecessors-reads.Asked,
+  predecessors-reads.Learnt,
+) (backward-at t) backward.Post
+backward-sub-i t c = search needs
+
+backward-array-read-ending : (t : ℕ) → backward-lts.Need-array-read-ending (
+  accepting-reads.Asked,
+  accepting-reads.Learnt,
+  ending-reads.Asked,
+  ending-reads.Learnt,
+  backward-below t,
+  backward.Post,
+  predecessors-reads.Asked,
+  predecessors-reads.Learnt,
+) (backward-at t) backward.Post
+backward-array-read-ending t c = search needs
+
+backward-accepting-requires : (t : ℕ) → backward-lts.Need-accepting-requires (
+  accepting-reads.Asked,
+  accepting-reads.Learnt,
+  ending-reads.Asked,
+  ending-reads.Learnt,
+  backward-below t,
+  backward.Post,
+  predecessors-reads.Asked,
+  predecessors-reads.Learnt,
+) (backward-at t) backward.Post
+backward-accepting-requires t c κs = search needs
+
+backward-ending-requires : (t : ℕ) → backward-lts.Need-ending-requires (
+  accepting-reads.Asked,
+  accepting-reads.Learnt,
+  ending-reads.Asked,
+  ending-reads.Learnt,
+  backward-below t,
+  backward.Post,
+  predecessors-reads.Asked,
+  predecessors-reads.Learnt,
+) (backward-at t) backward.Post
+backward-ending-requires t c κs = search needs
+
+backward-array-write-last : (t : ℕ) → backward-lts.Need-array-write-last (
+  accepting-reads.Asked,
+  accepting-reads.Learnt,
+  ending-reads.Asked,
+  ending-reads.Learnt,
+  backward-below t,
+  backward.Post,
+  predecessors-reads.Asked,
+  predecessors-reads.Learnt,
+) (backward-at t) backward.Post
+backward-array-write-last t c = search needs
+
+backward-returns : (t : ℕ) → backward-lts.Need-returns (
+  accepting-reads.Asked,
+  accepting-reads.Learnt,
+  ending-reads.Asked,
+  ending-reads.Learnt,
+  backward-below t,
+  backward.Post,
+  predecessors-reads.Asked,
+  predecessors-reads.Learnt,
+) (backward-at t) backward.Post
+backward-returns t c =
+    let s = c .before .before .before .before in
+    let x = s .args .t3 in
+    let d = s .args .d .now in
+    let k = s .args .k in
+    let fit = machine-suited k d x (s .pre .1 .1) (s .pre .1 .2) (search needs) (array-words x (λ i. search needs)) in
+    backward-last (machine k d) (stateCount d) k x fit (s .args .r) (c .before .before .accepting .result) _ _ (c .if1 .taken) (c .before .before .accepting .ensures ∙ sym (machine-accepting k d)) (c .before .ending .ensures) refl
+
+backward-sub-backward : (t : ℕ) → backward-lts.Need-sub-backward (
+  accepting-reads.Asked,
+  accepting-reads.Learnt,
+  ending-reads.Asked,
+  ending-reads.Learnt,
+  backward-below t,
+  backward.Post,
+  predecessors-reads.Asked,
+  predecessors-reads.Learnt,
+) (backward-at t) backward.Post
+backward-sub-backward t c = search needs
+
+backward-backward-requires : (t : ℕ) → backward-lts.Need-backward-requires (
+  accepting-reads.Asked,
+  accepting-reads.Learnt,
+  ending-reads.Asked,
+  ending-reads.Learnt,
+  backward-below t,
+  backward.Post,
+  predecessors-reads.Asked,
+  predecessors-reads.Learnt,
+) (backward-at t) backward.Post
+backward-backward-requires t c κs =
+    let s = c .before .before .before .before in
+    (omega arith, (s .pre .1 .0, s .pre .1 .1, s .pre .1 .2, omega arith))
+
+backward-add-predecessors : (t : ℕ) → backward-lts.Need-add-predecessors (
+  accepting-reads.Asked,
+  accepting-reads.Learnt,
+  ending-reads.Asked,
+  ending-reads.Learnt,
+  backward-below t,
+  backward.Post,
+  predecessors-reads.Asked,
+  predecessors-reads.Learnt,
+) (backward-at t) backward.Post
+backward-add-predecessors t c = search needs
+
+backward-mul-predecessors : (t : ℕ) → backward-lts.Need-mul-predecessors (
+  accepting-reads.Asked,
+  accepting-reads.Learnt,
+  ending-reads.Asked,
+  ending-reads.Learnt,
+  backward-below t,
+  backward.Post,
+  predecessors-reads.Asked,
+  predecessors-reads.Learnt,
+) (backward-at t) backward.Post
+backward-mul-predecessors t c = search needs
+
+backward-array-read-predecessors : (t : ℕ) → backward-lts.Need-array-read-predecessors (
+  accepting-reads.Asked,
+  accepting-reads.Learnt,
+  ending-reads.Asked,
+  ending-reads.Learnt,
+  backward-below t,
+  backward.Post,
+  predecessors-reads.Asked,
+  predecessors-reads.Learnt,
+) (backward-at t) backward.Post
+backward-array-read-predecessors t c = search needs
+
+backward-add-predecessors-2 : (t : ℕ) → backward-lts.Need-add-predecessors-2 (
+  accepting-reads.Asked,
+  accepting-reads.Learnt,
+  ending-reads.Asked,
+  ending-reads.Learnt,
+  backward-below t,
+  backward.Post,
+  predecessors-reads.Asked,
+  predecessors-reads.Learnt,
+) (backward-at t) backward.Post
+backward-add-predecessors-2 t c = search needs
+
+backward-mul-predecessors-2 : (t : ℕ) → backward-lts.Need-mul-predecessors-2 (
+  accepting-reads.Asked,
+  accepting-reads.Learnt,
+  ending-reads.Asked,
+  ending-reads.Learnt,
+  backward-below t,
+  backward.Post,
+  predecessors-reads.Asked,
+  predecessors-reads.Learnt,
+) (backward-at t) backward.Post
+backward-mul-predecessors-2 t c = search needs
+
+backward-array-read-predecessors-2 : (t : ℕ) → backward-lts.Need-array-read-predecessors-2 (
+  accepting-reads.Asked,
+  accepting-reads.Learnt,
+  ending-reads.Asked,
+  ending-reads.Learnt,
+  backward-below t,
+  backward.Post,
+  predecessors-reads.Asked,
+  predecessors-reads.Learnt,
+) (backward-at t) backward.Post
+backward-array-read-predecessors-2 t c = search needs
+
+backward-predecessors-requires : (t : ℕ) → backward-lts.Need-predecessors-requires (
+  accepting-reads.Asked,
+  accepting-reads.Learnt,
+  ending-reads.Asked,
+  ending-reads.Learnt,
+  backward-below t,
+  backward.Post,
+  predecessors-reads.Asked,
+  predecessors-reads.Learnt,
+) (backward-at t) backward.Post
+backward-predecessors-requires t c κs = search needs
+
+backward-mul-sets : (t : ℕ) → backward-lts.Need-mul-sets (
+  accepting-reads.Asked,
+  accepting-reads.Learnt,
+  ending-reads.Asked,
+  ending-reads.Learnt,
+  backward-below t,
+  backward.Post,
+  predecessors-reads.Asked,
+  predecessors-reads.Learnt,
+) (backward-at t) backward.Post
+backward-mul-sets t c = search needs
+
+backward-array-write-sets : (t : ℕ) → backward-lts.Need-array-write-sets (
+  accepting-reads.Asked,
+  accepting-reads.Learnt,
+  ending-reads.Asked,
+  ending-reads.Learnt,
+  backward-below t,
+  backward.Post,
+  predecessors-reads.Asked,
+  predecessors-reads.Learnt,
+) (backward-at t) backward.Post
+backward-array-write-sets t c = search needs
+
+backward-returns-2 : (t : ℕ) → backward-lts.Need-returns-2 (
+  accepting-reads.Asked,
+  accepting-reads.Learnt,
+  ending-reads.Asked,
+  ending-reads.Learnt,
+  backward-below t,
+  backward.Post,
+  predecessors-reads.Asked,
+  predecessors-reads.Learnt,
+) (backward-at t) backward.Post
+backward-returns-2 t c =
+    let b = c .before .backward in
+    let e = c .before .before .before in
+    let s = e .before .before .before in
+    let x = s .args .t3 in
+    let d = s .args .d .now in
+    let k = s .args .k in
+    let fit = machine-suited k d x (s .pre .1 .1) (s .pre .1 .2) (search needs) (array-words x (λ i. search needs)) in
+    backward-next (machine k d) (stateCount d) k x fit (s .args .r) (e .before .accepting .result) _ _ _ (search needs) (c .before .before .if1 .left) (s .pre .1 .3)
+    (e .before .accepting .ensures ∙ sym (machine-accepting k d)) (e .ending .ensures) (b .ensures) (c .predecessors .ensures)
+
+pub +backward-spec : {M : Type 1} → statement M
++backward-spec = close μ-backward λ t. backward-lts.spec (
+  accepting-reads.Asked,
+  accepting-reads.Learnt,
+  ending-reads.Asked,
+  ending-reads.Learnt,
+  backward-below t,
+  backward.Post,
+  predecessors-reads.Asked,
+  predecessors-reads.Learnt,
+)
+    (backward-at t)
+    backward.Post
+    (backward-sub-i t)
+    (backward-array-read-ending t)
+    (backward-accepting-requires t)
+    (backward-ending-requires t)
+    (backward-array-write-last t)
+    (backward-returns t)
+    (backward-sub-backward t)
+    (backward-backward-requires t)
+    (backward-add-predecessors t)
+    (backward-mul-predecessors t)
+    (backward-array-read-predecessors t)
+    (backward-add-predecessors-2 t)
+    (backward-mul-predecessors-2 t)
+    (backward-array-read-predecessors-2 t)
+    (backward-predecessors-requires t)
+    (backward-mul-sets t)
+    (backward-array-write-sets t)
+    (backward-returns-2 t)

@@ -1,0 +1,217 @@
+-- Regular by support: the lengths and the symbols that the loops keep are those that accepted strings of the row use. Assumes nothing.
+use mathlib.Core.Path.{_≡_, refl, sym, ap, subst, _∙_}
+use mathlib.Core.Logic.{_⊎_, inl, inr}
+use mathlib.Core.Bool.{true, false, cond, false≢true}
+use mathlib.Core.List.{List, [], _∷_, _++_}
+use Prim.Native.Nat.{ℕ, zero, suc, _+_, _^_, _≤_, _<_}
+use native.Mathlib.Nat.{le-of-suc-le-suc, eq-or-lt-of-le}
+use native.Mathlib.Numerals.{add-one}
+use native.Mathlib.Omega.{arith}
+use lib.Bits.{bitAnd, bitOr}
+use lib.ListN.{length, getD, set, take, drop, length-append, length-drop, length-set}
+use lib.Seq.{split-at, take-length, length-take-le, getD-at, getD-set-same, getD-set-other}
+use Rattle.model.specs.Words.{bit, word}
+use Rattle.model.specs.Constraints.{Automaton, move, reached, accepts, regular, variables, meets, Problem, noAutomaton, width}
+use Rattle.model.specs.Solutions.{textBit}
+use Rattle.model.specs.Support.{narrowed}
+use Rattle.laws.proofs.WordLaws.{zero-bit}
+use Rattle.laws.proofs.RowLaws.{InRow, used-length, used-symbol, symbol-inside}
+use Rattle.laws.proofs.Supports.{Supports}
+use Rattle.rows.specs.Rows.{alone, stored}
+use Rattle.rows.proofs.Windows.{uses-symbol, uses-length}
+use Rattle.automata.specs.Sets.{Targets}
+use Rattle.automata.proofs.SetLaws.{gathered-skip, gathered-one}
+use Rattle.regular.specs.Paths.{Reach, Ends}
+use Rattle.regular.specs.Sets.{Forward, Backward, Lengths, Moved, Symbols}
+use Rattle.regular.proofs.PathLaws.{reached-append, allowed-first, first-allowed, allowed-cons, allowed-append, allowed-take, allowed-drop}
+use Rattle.regular.proofs.BitLaws.{where-bit, of-where-bit, meeting-bit, no-meeting-bit}
+use Rattle.regular.proofs.StateLaws.{Suited, reach-known}
+use Rattle.rows.proofs.OneString.{Passing, one-narrowed}
+use Rattle.model.specs.Domains.{row}
+use Rattle.rows.proofs.PlacedKinds.{placed-one}
+
+-- ---- the loop over lengths
+
+module _ (allowed accepting : ℕ) (sets : List ℕ) (l n r s : ℕ) (g : Lengths l allowed accepting sets r) (e : n ≡ cond (bit allowed l) accepting 0) where
+  pub lengths-skip : bitAnd n (word sets l) ≡ 0 → s ≡ r → Lengths (l + 1) allowed accepting sets s
+  lengths-skip z q = rw q (gathered-skip _ l r g (λ t x.
+      no-meeting-bit n (word sets l) (x .2 .0) z (ap (λ (w : ℕ). bit w (x .2 .0)) e ∙ where-bit (bit allowed l) accepting (x .2 .0) (x .1) (x .2 .1)) (x .2 .2)))
+
+  pub lengths-add : (o : ℕ) → n < 2 ^ 32 → (bitAnd n (word sets l) ≡ 0 → ⊥) → o ≡ 2 ^ l → s ≡ bitOr o r → Lengths (l + 1) allowed accepting sets s
+  lengths-add o h ne u q =
+      let m = meeting-bit n (word sets l) h ne in
+      let t = of-where-bit (bit allowed l) accepting (m .0) (ap (λ (w : ℕ). bit w (m .0)) (sym e) ∙ m .1) in
+      rw (q, u) (gathered-one _ l r g l (refl, t .0, (m .0, t .1, m .2)) (λ t x. x .0))
+
+-- ---- the loop over symbols
+
+module _ (A : Automaton) (q allowed : ℕ) where
+  pub moved-all : (set a r : ℕ) → bit allowed a ≡ true → Targets A q set a r → Moved A q allowed set a r
+  moved-all set a r e g = record {
+    sound = λ t b. let x = g .sound t b in (x .0, x .1, (e, x .2 .0, x .2 .1));
+    complete = λ t p h x. g .complete t p h (x .1, x .2);
+  }
+
+  pub moved-none : (set a : ℕ) → bit allowed a ≡ false → Moved A q allowed set a 0
+  moved-none set a e = record {
+    sound = λ t b. absurd (false≢true (sym (zero-bit t) ∙ b));
+    complete = λ t p h x. absurd (false≢true (sym e ∙ x .0));
+  }
+
+  module _ (before after a n r s : ℕ) (g : Symbols A q a allowed before after r) (m : Moved A q allowed before a n) where
+    pub symbols-skip : bitAnd n after ≡ 0 → s ≡ r → Symbols A q (a + 1) allowed before after s
+    symbols-skip z u = rw u (gathered-skip _ a r g (λ t x.
+        let y = x .2 in
+        no-meeting-bit n after (move A (y .0) a) z (m .complete (move A (y .0) a) (y .0) (y .1) (x .1, y .2, refl)) (y .3)))
+
+    pub symbols-add : (o : ℕ) → n < 2 ^ 32 → (bitAnd n after ≡ 0 → ⊥) → o ≡ 2 ^ a → s ≡ bitOr o r → Symbols A q (a + 1) allowed before after s
+    symbols-add o h ne u v =
+        let y = meeting-bit n after h ne in
+        let t = m .sound (y .0) (y .1) in
+        let i : bit after (move A (t .0) a) ≡ true = ap (bit after) (t .2 .2) ∙ y .2 in
+        rw (v, u) (gathered-one _ a r g a (refl, t .2 .0, (t .0, t .1, t .2 .1, i)) (λ t x. x .0))
+
+-- ---- the loop over places
+
+-- r has the lengths that are kept, and the symbols that are kept at the first n places
+pub record Kept (A : Automaton) (q k : ℕ) (x before after : List ℕ) (n : ℕ) (r : List ℕ) : Type 0 where
+  pub size : length r ≡ 64
+  pub lengths : Lengths 64 (word x 0) (A .accepting) before (word r 0)
+  pub places : (j : ℕ) → j < n → Symbols A q k (word x (suc j)) (word before j) (word after (suc j)) (word r (suc j))
+
+module _ (A : Automaton) (q k : ℕ) (x before after : List ℕ) where
+  pub kept-start : (r : List ℕ) (acc : ℕ) → length r ≡ 64 → acc ≡ A .accepting → Lengths 64 (word x 0) acc before (word r 0) → Kept A q k x before after 0 r
+  kept-start r acc n e g = record { size = n; lengths = subst (λ (a : ℕ). Lengths 64 (word x 0) a before (word r 0)) e g; places = λ j h. absurd (omega arith) }
+
+  pub kept-upto : (n m : ℕ) (r : List ℕ) → n ≡ m → Kept A q k x before after n r → Kept A q k x before after m r
+  kept-upto n m r e t = subst (λ (i : ℕ). Kept A q k x before after i r) e t
+
+  pub kept-step : (r : List ℕ) (i place : ℕ) → i < 63 → Kept A q k x before after i r → Symbols A q k (word x (i + 1)) (word before i) (word after (i + 1)) place
+      → Kept A q k x before after (i + 1) (set r (i + 1) place)
+  kept-step r i place h t g =
+      let n = t .size in
+      rw add-one (record {
+        size = simp length-set n;
+        lengths = subst (Lengths 64 (word x 0) (A .accepting) before) (sym (getD-set-other r (suc i) 0 place 0 (omega arith))) (t .lengths);
+        places = λ j l. at j (eq-or-lt-of-le (le-of-suc-le-suc l));
+      })
+    where
+      at : (j : ℕ) → (j ≡ i) ⊎ (j < i) → Symbols A q k (word x (suc j)) (word before j) (word after (suc j)) (word (set r (suc i) place) (suc j))
+      at j (inl e) =
+          let n = t .size in
+          let s : Symbols A q k (word x (suc i)) (word before i) (word after (suc i)) place = rw add-one at g in
+          rw e (subst (Symbols A q k (word x (suc i)) (word before i) (word after (suc i))) (sym (getD-set-same r (suc i) place 0 (omega arith))) s)
+      at j (inr l) = subst (Symbols A q k (word x (suc j)) (word before j) (word after (suc j))) (sym (getD-set-other r (suc i) (suc j) place 0 (omega arith))) (t .places j l)
+
+-- ---- strings and ways
+
+module _ (A : Automaton) (x : List ℕ) where
+  -- a way to an accepting state, with a length that is allowed
+  length-string : (l p : ℕ) → Reach A x l p → bit (word x 0) l ≡ true → bit (A .accepting) p ≡ true → (w : List ℕ) × Passing (accepts A) x w × (bit (textBit w 0) l ≡ true)
+  unfolding accepts
+  length-string l p f e b = (
+    f .symbols,
+    record {
+      inside = record { length-bit = subst (λ (n : ℕ). bit (word x 0) n ≡ true) (sym (f .long)) e; symbol-bits = first-allowed x (f .symbols) (f .allowed) };
+      meeting = ap (bit (A .accepting)) (f .leads) ∙ b;
+    },
+    uses-length (f .symbols) l (f .long),
+  )
+
+  -- a way to a state, a move from it, and a way on to an accepted end
+  symbol-string : (j p a : ℕ) → Reach A x j p → bit (word x (suc j)) a ≡ true → Ends A x (suc j) (move A p a) → (w : List ℕ) × Passing (accepts A) x w × (bit (textBit w (suc j)) a ≡ true)
+  unfolding accepts reached
+  symbol-string j p a f b e =
+      let u : List ℕ = f .symbols in
+      let v : List ℕ = e .symbols in
+      let n : length u ≡ j = f .long in
+      let size : length (u ++ a ∷ v) ≡ suc j + length v = omega (arith, length-append u (a ∷ v)) in (
+        u ++ a ∷ v,
+        record {
+          inside = record {
+            length-bit = subst (λ (m : ℕ). bit (word x 0) m ≡ true) (sym size) (e .long);
+            symbol-bits = first-allowed x (u ++ a ∷ v) (allowed-append x u (a ∷ v) j n (f .allowed) (allowed-cons x j a v b (e .allowed)));
+          };
+          meeting = ap (bit (A .accepting)) (reached-append A 0 u (a ∷ v) ∙ ap (λ (s : ℕ). reached A (move A s a) v) (f .leads)) ∙ e .accepted;
+        },
+        uses-symbol (u ++ a ∷ v) j a (omega arith) (getD-at u a v 0 j n),
+      )
+
+  -- a string's own ways
+  string-reach : (w : List ℕ) → InRow x w → (j : ℕ) → j ≤ length w → Reach A x j (reached A 0 (take j w))
+  string-reach w i j h = record { symbols = take j w; long = length-take-le j w h; allowed = allowed-take x w j h (allowed-first x w (i .symbol-bits)); leads = refl }
+
+  string-ends : (w : List ℕ) → Passing (accepts A) x w → (j : ℕ) → j < length w → Ends A x (suc j) (move A (reached A 0 (take j w)) (getD w j 0))
+  unfolding accepts reached
+  string-ends w m j h =
+      let n : length w ≡ suc j + length (drop (suc j) w) = omega (arith, length-drop (suc j) w) in
+      record {
+        symbols = drop (suc j) w;
+        long = subst (λ (k : ℕ). bit (word x 0) k ≡ true) n (m .inside .length-bit);
+        allowed = allowed-drop x w (suc j) (allowed-first x w (m .inside .symbol-bits));
+        accepted = ap (bit (A .accepting)) (sym (reached-append A 0 (take j w) (getD w j 0 ∷ drop (suc j) w)) ∙ ap (reached A 0) (sym (split-at w j 0 h))) ∙ m .meeting;
+      }
+
+-- ---- support
+
+module _ (A : Automaton) (q k : ℕ) (x before after r : List ℕ) (fit : Suited A q k x) (f : Forward A x 64 before) (b : Backward A q x 1 after) (kept : Kept A q k x before after 63 r) where
+  length-sound : (l : ℕ) → bit (word r 0) l ≡ true → (w : List ℕ) × Passing (accepts A) x w × (bit (textBit w 0) l ≡ true)
+  length-sound l e =
+      let t = kept .lengths .sound l e in
+      let y = t .2 .2 in
+      subst (λ (n : ℕ). (w : List ℕ) × Passing (accepts A) x w × (bit (textBit w 0) n ≡ true)) (t .2 .0)
+      (length-string A x (t .0) (y .0) (f .sound (t .0) (y .0) (t .1) (y .2)) (t .2 .1) (y .1))
+
+  symbol-sound : (j a : ℕ) → j < 63 → bit (word r (suc j)) a ≡ true → (w : List ℕ) × Passing (accepts A) x w × (bit (textBit w (suc j)) a ≡ true)
+  symbol-sound j a h e =
+      let t = kept .places j h .sound a e in
+      let y = t .2 .2 in
+      subst (λ (n : ℕ). (w : List ℕ) × Passing (accepts A) x w × (bit (textBit w (suc j)) n ≡ true)) (t .2 .0)
+      (symbol-string A x j (y .0) (t .0) (f .sound j (y .0) (omega arith) (y .2)) (t .2 .1) (b .sound (suc j) (move A (y .0) (t .0)) (omega arith) (omega arith) (y .3)))
+
+  length-stays : (l : ℕ) (w : List ℕ) → Passing (accepts A) x w → bit (textBit w 0) l ≡ true → bit (word r 0) l ≡ true
+  unfolding accepts
+  length-stays l w m e =
+      let n : length w ≡ l = used-length w l e in
+      let h = fit .words 0 (length w) (m .inside .length-bit) in
+      let c = string-reach A x w (m .inside) (length w) (omega arith) in
+      let p : ℕ = reached A 0 (take (length w) w) in
+      let a : bit (A .accepting) p ≡ true = ap (λ (u : List ℕ). bit (A .accepting) (reached A 0 u)) (take-length w) ∙ m .meeting in
+      kept .lengths .complete l (length w) h (n, m .inside .length-bit, (p, a, f .complete (length w) p h c))
+
+  symbol-stays : (j a : ℕ) → j < 63 → (w : List ℕ) → Passing (accepts A) x w → bit (textBit w (suc j)) a ≡ true → bit (word r (suc j)) a ≡ true
+  symbol-stays j a h w m e =
+      let l = symbol-inside w j a e in
+      let s : ℕ = getD w j 0 in
+      let p : ℕ = reached A 0 (take j w) in
+      let c = string-reach A x w (m .inside) j (omega arith) in
+      let v = m .inside .symbol-bits j l in
+      let pk = reach-known A q k x fit j p c in
+      let sk = fit .low j s v in
+      kept .places j h .complete a s sk (
+        used-symbol w j a e,
+        v,
+        (
+          p,
+          pk,
+          f .complete j p (omega arith) c,
+          b .complete (suc j) (move A p s) (omega arith) (omega arith) (fit .known p s pk sk) (string-ends A x w m j l),
+        ),
+      )
+
+  kept-supports : Supports (Passing (accepts A) x) textBit 64 r
+  kept-supports = record {
+    count = kept .size;
+    sound = elim [ zero ↦ λ l h e. length-sound l e | suc j ↦ λ a h e. symbol-sound j a (omega arith) e ];
+    complete = elim [ zero ↦ λ l h w m e. length-stays l w m e | suc j ↦ λ a h w m e. symbol-stays j a (omega arith) w m e ];
+  }
+
+  pub regular-narrowed : r ≡ narrowed (alone 1 0 (A ∷ [])) (regular 0 0) x
+  unfolding variables meets alone
+  regular-narrowed = one-narrowed (A ∷ []) (regular 0 0) (accepts A) refl (λ α. refl) x (fit .size) (fit .words) r kept-supports
+
+-- the row that `narrow` gives, put back into a table, makes the narrowed table; A is the automaton that the constraint names
+pub regular-placed : (P : Problem) (x d : ℕ) (A : Automaton) → A ≡ getD (P .automata) d noAutomaton → x < P .strings → (T : List ℕ) → length T ≡ width P
+    → (r : List ℕ) → r ≡ narrowed (alone 1 0 (A ∷ [])) (regular 0 0) (row T x) → stored T x r ≡ narrowed P (regular x d) T
+unfolding variables meets alone
+regular-placed P x d A e h = placed-one P (regular x d) (regular 0 0) (A ∷ []) x h refl refl (λ α. ap (λ (B : Automaton). accepts B (α .text x)) (sym e))

@@ -1,0 +1,3 @@
+-- The definitions that the contracts of `regular` cite.
+pub mod Paths
+pub mod Sets

@@ -1,0 +1,35 @@
+-- The sets that the step of Regular goes through: of states for each place, of lengths, and of symbols. Assumes nothing.
+use mathlib.Core.Path.{_≡_}
+use mathlib.Core.Bool.{true}
+use mathlib.Core.List.{List}
+use Prim.Native.Nat.{ℕ, suc, _≤_, _<_}
+use Rattle.model.specs.Words.{bit, word, noneFrom}
+use Rattle.model.specs.Constraints.{Automaton, move}
+use Rattle.automata.specs.Sets.{Gathered}
+use Rattle.regular.specs.Paths.{Reach, Ends}
+
+-- "a symbol word has a bit at k or above": none of this row has
+pub record Alphabet (k : ℕ) (x : List ℕ) : Type 0 where
+  pub below : (j : ℕ) → j < 63 → noneFrom k (word x (suc j)) ≡ true
+
+-- for each i below n, set i has the states that the first i places lead to
+pub record Forward (A : Automaton) (x : List ℕ) (n : ℕ) (sets : List ℕ) : Type 0 where
+  pub sound : (i p : ℕ) → i < n → bit (word sets i) p ≡ true → Reach A x i p
+  pub complete : (i p : ℕ) → i < n → Reach A x i p → bit (word sets i) p ≡ true
+
+-- for each i from m on, set i has the states, of q, from which the places after the first i lead to an accepted end
+pub record Backward (A : Automaton) (q : ℕ) (x : List ℕ) (m : ℕ) (sets : List ℕ) : Type 0 where
+  pub sound : (i p : ℕ) → m ≤ i → i < 64 → bit (word sets i) p ≡ true → Ends A x i p
+  pub complete : (i p : ℕ) → m ≤ i → i < 64 → p < q → Ends A x i p → bit (word sets i) p ≡ true
+
+-- the lengths l below n that are allowed, and whose set has an accepting state p
+abbrev pub Lengths : ℕ → ℕ → ℕ → List ℕ → ℕ → Type 0
+Lengths n allowed accepting sets r = Gathered n (λ l t. (l ≡ t) × (bit allowed l ≡ true) × ((p : ℕ) × (bit accepting p ≡ true) × (bit (word sets l) p ≡ true))) r
+
+-- the states t to which a state p of the set, of q states, moves by symbol a, if that is allowed
+abbrev pub Moved : Automaton → ℕ → ℕ → ℕ → ℕ → ℕ → Type 0
+Moved A q allowed set a r = Gathered q (λ p t. (bit allowed a ≡ true) × (bit set p ≡ true) × (move A p a ≡ t)) r
+
+-- the symbols a, of k, that are allowed, and by which a state p of the first set moves into the second
+abbrev pub Symbols : Automaton → ℕ → ℕ → ℕ → ℕ → ℕ → ℕ → Type 0
+Symbols A q k allowed before after r = Gathered k (λ a t. (a ≡ t) × (bit allowed a ≡ true) × ((p : ℕ) × (p < q) × (bit before p ≡ true) × (bit after (move A p a) ≡ true))) r

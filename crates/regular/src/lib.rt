@@ -1,0 +1,118 @@
+// Regular(X, D): automaton D accepts X. A symbol stays at a place if a state that the places before it lead to moves by it to a state from which the places
+// after it lead to an accepted end; a length stays if the places up to it lead to an accepting state. Sets of states are a `u32` each.
+//
+// Assumes nothing. `requires` asks what refusals 3, 5, 6 and 10 leave: at most 64 symbols, an automaton's whole bytes, and no bit at k or above at a place.
+ghost use mathlib.Core.Path.{_≡_};
+ghost use mathlib.Core.Bool.{cond};
+ghost use mathlib.Core.List.{[], _∷_};
+ghost use Prim.Native.Nat.{_<_, _≤_, _-_};
+ghost use Rattle.model.specs.Words.{bit};
+ghost use Rattle.model.specs.Constraints.{regular};
+ghost use Rattle.model.specs.Support.{narrowed};
+ghost use Rattle.rows.specs.Rows.{alone};
+ghost use Rattle.automata.specs.Machine.{stateCount, machine, Whole};
+ghost use Rattle.regular.specs.Sets.{Alphabet, Forward, Backward, Moved, Lengths, Symbols};
+
+// The accepting states, where a string may end past i places.
+fn ending(lengths: u64, i: usize, accepting: u32) -> u32
+    requires { ⌜ i < 64 ⌝ }
+    ensures { λ r. ⌜ r ≡ cond (bit lengths i) accepting 0 ⌝ }
+{
+    if words::has(lengths, i) { accepting } else { 0 }
+}
+
+// For each i, the states that the first i places lead to.
+fn forward(d: &[u8], k: usize, x: [u64; 64]) -> [u32; 64]
+    requires { ⌜ (k ≤ 64) × Whole k (now d) × Alphabet k x ⌝ }
+    ensures { λ r. ⌜ Forward (machine k (now (d .entry))) x 64 r ⌝ }
+{
+    let mut sets = [0u32; 64];
+    sets[0] = 1;
+    let mut i: usize = 0;
+    while i < 63 {
+        let after = automata::successors(d, k, sets[i], x[i + 1]);
+        sets[i + 1] = after;
+        i += 1;
+    }
+    sets
+}
+
+// From which states an accepted end is reachable with at most r symbols left, that is, past 63 - r places; and so for each smaller number of symbols.
+fn backward(d: &[u8], k: usize, x: [u64; 64], r: usize) -> [u32; 64]
+    requires { ⌜ (k ≤ 64) × Whole k (now d) × Alphabet k x × (r < 64) ⌝ }
+    ensures { λ s. ⌜ Backward (machine k (now (d .entry))) (stateCount (now (d .entry))) x (63 - r) s ⌝ }
+{
+    let i = 63 - r;
+    let here = ending(x[0], i, automata::accepting(d));
+    if r == 0 {
+        let mut last = [0u32; 64];
+        last[63] = here;
+        return last;
+    }
+    let mut sets = backward(d, k, x, r - 1);
+    let before = automata::predecessors(d, k, sets[i + 1], x[i + 1]);
+    sets[i] = here | before;
+    sets
+}
+
+// The lengths with which the places before lead to an accepting state.
+fn lengths(allowed: u64, accepting: u32, before: [u32; 64]) -> u64
+    ensures { λ r. ⌜ Lengths 64 allowed accepting before r ⌝ }
+{
+    let mut r: u64 = 0;
+    let mut l: usize = 0;
+    while l < 64 {
+        if ending(allowed, l, accepting) & before[l] != 0 {
+            r = words::single(l) | r;
+        }
+        l += 1;
+    }
+    r
+}
+
+// The states that a state of the set moves to by symbol a, where the word allows it.
+fn moved(d: &[u8], k: usize, allowed: u64, set: u32, a: usize) -> u32
+    requires { ⌜ (k ≤ 64) × Whole k (now d) × (a < k) ⌝ }
+    ensures { λ r. ⌜ Moved (machine k (now (d .entry))) (stateCount (now (d .entry))) allowed set a r ⌝ }
+{
+    if words::has(allowed, a) {
+        automata::targets(d, k, set, a)
+    } else {
+        0
+    }
+}
+
+// The symbols of a place by which a state reached before it moves to one from which an accepted end is reached after it.
+fn symbols(d: &[u8], k: usize, allowed: u64, before: u32, after: u32) -> u64
+    requires { ⌜ (k ≤ 64) × Whole k (now d) ⌝ }
+    ensures { λ r. ⌜ Symbols (machine k (now (d .entry))) (stateCount (now (d .entry))) k allowed before after r ⌝ }
+{
+    let mut r: u64 = 0;
+    let mut a: usize = 0;
+    while a < k {
+        if moved(d, k, allowed, before, a) & after != 0 {
+            r = words::single(a) | r;
+        }
+        a += 1;
+    }
+    r
+}
+
+// One narrowing step. After a symbol at most 62 are left.
+pub fn narrow(d: &[u8], k: usize, x: [u64; 64]) -> [u64; 64]
+    requires { ⌜ (k ≤ 64) × Whole k (now d) × Alphabet k x ⌝ }
+    ensures { λ r. ⌜ r ≡ narrowed (alone 1 0 (machine k (now (d .entry)) ∷ [])) (regular 0 0) x ⌝ }
+{
+    let before = forward(d, k, x);
+    let after = backward(d, k, x, 62);
+    let first = lengths(x[0], automata::accepting(d), before);
+    let mut r = [0u64; 64];
+    r[0] = first;
+    let mut i: usize = 0;
+    while i < 63 {
+        let place = symbols(d, k, x[i + 1], before[i], after[i + 1]);
+        r[i + 1] = place;
+        i += 1;
+    }
+    r
+}

@@ -1,0 +1,193 @@
+-- One start, by support: Y's least length decides for X, X's greatest for Y, and the start stays if a choice is left. Assumes nothing.
+use mathlib.Core.Path.{_≡_, refl, sym, ap, subst, _∙_}
+use mathlib.Core.Bool.{Bool, true, false, cond, _&&_, false≢true}
+use mathlib.Core.List.{List, [], _∷_, map}
+use Prim.Native.Nat.{ℕ, suc, _+_, _-_, _^_, _≤_, _<_}
+use native.Mathlib.Omega.{arith}
+use lib.Dec.{ltb, leb}
+use lib.ListN.{length, getD, take, drop, length-drop}
+use lib.Seq.{length-take-le, getD-take, getD-drop}
+use borrow.Author.Tests.{ltb-true, ltb-false, lt-ltb, leb-true, le-leb}
+use Rattle.model.specs.Lists.{upto}
+use Rattle.model.specs.Words.{bit, word, Words}
+use Rattle.model.specs.Solutions.{textBit}
+use Rattle.words.specs.Ends.{Lowest}
+use Rattle.rows.proofs.Fill.{tabulated-length, tabulated-word}
+use Rattle.rows.proofs.TrimLaws.{made}
+use Rattle.laws.proofs.ListLaws.{and-true}
+use Rattle.laws.proofs.WordLaws.{pow-self, pow-only}
+use Rattle.laws.proofs.RowLaws.{InRow}
+use Rattle.laws.proofs.Supports.{Supports, moved-support}
+use Rattle.sub.specs.Substrings.{reachOf, Holds, Fitting, Longest, Part, PartAt, Supported}
+use Rattle.rows.proofs.ChoiceLaws.{some-choice, no-choice}
+use Rattle.sub.proofs.ReachLaws.{reach-end, reach-some, reach-mono}
+
+-- ---- a string with another laid over it after off symbols
+
+laid-over : ℕ → List ℕ → List ℕ → ℕ → ℕ
+laid-over off v w j = cond (leb off j && ltb j (off + length v)) (getD v (j - off) 0) (getD w j 0)
+
+laid-inside : (off : ℕ) (v w : List ℕ) (j : ℕ) → j < length v → laid-over off v w (off + j) ≡ getD v j 0
+unfolding laid-over
+laid-inside off v w j h =
+    let e : off + j - off ≡ j = omega arith in
+    rw (le-leb off (off + j) (omega arith), lt-ltb (off + j) (off + length v) (omega arith), e)
+
+-- its symbol at j is one of v's, or w's own
+laid-cases : (off : ℕ) (v w : List ℕ) (P : ℕ → ℕ → Type 0) → ((j : ℕ) → j < length v → P (off + j) (getD v j 0)) → (j : ℕ) → P j (getD w j 0) → P j (laid-over off v w j)
+unfolding laid-over
+laid-cases off v w P inside j outside = go (leb off j && ltb j (off + length v)) refl
+  where
+    go : (t : Bool) → (leb off j && ltb j (off + length v)) ≡ t → P j (cond t (getD v (j - off) 0) (getD w j 0))
+    go true q =
+        let b = and-true (leb off j) (ltb j (off + length v)) q in
+        let h : off ≤ j = leb-true off j (b .0) in
+        let k : j < off + length v = ltb-true j (off + length v) (b .1) in
+        let e : off + (j - off) ≡ j = omega arith in
+        subst (λ (i : ℕ). P i (getD v (j - off) 0)) e (inside (j - off) (omega arith))
+    go false q = outside
+
+module _ (x y : List ℕ) (n off : ℕ) where
+  -- n does not allow the start
+  pub start-barred : bit n (suc off) ≡ false → (v : Part) → PartAt x y n off v → ⊥
+  start-barred e v p = false≢true (sym e ∙ ap (bit n) (sym (p .starts)) ∙ p .in-start)
+
+  module _ (least : ℕ) (low : Lowest (word y 0) least) where
+    at-least : (w : List ℕ) → InRow y w → least ≤ length w
+    at-least w i = go (ltb (length w) least) refl
+      where
+        go : (t : Bool) → ltb (length w) least ≡ t → least ≤ length w
+        go true q = absurd (false≢true (sym (low .below (length w) (ltb-true (length w) least q)) ∙ i .length-bit))
+        go false q = ltb-false (length w) least q
+
+    -- what every choice asks of X
+    least-reached : (v : Part) → PartAt x y n off v → reachOf off least ≤ length (v .whole)
+    least-reached v p =
+        let m = reach-mono off least (length (v .part)) (at-least (v .part) (p .in-part)) in
+        let k = p .reached in
+        omega arith
+
+    -- ---- X
+
+    first-part : List ℕ → Part
+    first-part w = record { whole = w; part = take least (drop off w); start = suc off }
+
+    of-holds : bit n (suc off) ≡ true → (w : List ℕ) → Holds x y off least (reachOf off least) w → PartAt x y n off (first-part w)
+    unfolding first-part
+    of-holds e w h =
+        let r = reach-end off least in
+        let k = h .long in
+        let ld = length-drop off w in
+        let l : length (take least (drop off w)) ≡ least = length-take-le least (drop off w) (omega arith) in
+        let at : (j : ℕ) → j < least → getD w (off + j) 0 ≡ getD (take least (drop off w)) j 0 = λ j g. sym (getD-take least (drop off w) j 0 g ∙ getD-drop off w j 0) in
+        record {
+          in-whole = h .inside;
+          in-part = record {
+            length-bit = ap (bit (word y 0)) l ∙ low .here;
+            symbol-bits = λ j g. ap (bit (word y (suc j))) (sym (at j (omega arith))) ∙ h .allowed j (omega arith);
+          };
+          in-start = e;
+          starts = refl;
+          reached = subst (λ (i : ℕ). reachOf off i ≤ length w) (sym l) k;
+          found = λ j g. at j (omega arith);
+        }
+
+    in-holds : (v : Part) → PartAt x y n off v → Holds x y off least (reachOf off least) (v .whole)
+    in-holds v p = record {
+      inside = p .in-whole;
+      long = least-reached v p;
+      allowed = λ j h. let k = at-least (v .part) (p .in-part) in ap (bit (word y (suc j))) (p .found j (omega arith)) ∙ p .in-part .symbol-bits j (omega arith);
+    }
+
+    wholes-supported : bit n (suc off) ≡ true → (r : List ℕ) → Supports (Holds x y off least (reachOf off least)) textBit 64 r → Supports (PartAt x y n off) (λ v. textBit (v .whole)) 64 r
+    unfolding first-part
+    wholes-supported e r = moved-support (Holds x y off least (reachOf off least)) (PartAt x y n off) textBit (λ v. textBit (v .whole)) 64 r
+        (λ w h. (first-part w, of-holds e w h, λ i k. refl)) (λ v p. (v .whole, in-holds v p, λ i k. refl))
+
+    -- no string is left of X
+    pub start-empty : bit n (suc off) ≡ true → (r : List ℕ) → Supports (Holds x y off least (reachOf off least)) textBit 64 r → word r 0 ≡ 0 → (v : Part) → PartAt x y n off v → ⊥
+    start-empty e r s = no-choice (PartAt x y n off) (λ v. v .whole) r (wholes-supported e r s)
+
+    -- ---- Y
+
+    module _ (top : ℕ) (longest : Longest x top) where
+      -- X is too short
+      pub start-past : top < reachOf off least → (v : Part) → PartAt x y n off v → ⊥
+      start-past h v p =
+          let k = least-reached v p in
+          let m = longest .most (v .whole) (p .in-whole) in
+          omega arith
+
+      module _ (e : bit n (suc off) ≡ true) (far : reachOf off least ≤ top) where
+        around : List ℕ → List ℕ
+        around v = map (laid-over off v (longest .string)) (upto top)
+
+        around-in : (v : List ℕ) → Fitting x y off top v → InRow x (around v)
+        unfolding around
+        around-in v f = made x top (laid-over off v (longest .string)) (subst (λ (l : ℕ). bit (word x 0) l ≡ true) (longest .long) (longest .inside .length-bit))
+            (λ j h. laid-cases off v (longest .string) (λ i a. bit (word x (suc i)) a ≡ true) (λ i k. f .allowed i k) j
+            (longest .inside .symbol-bits j (subst (λ (l : ℕ). j < l) (sym (longest .long)) h)))
+
+        around-reached : (v : List ℕ) → Fitting x y off top v → reachOf off (length v) ≤ top
+        around-reached v f = go (ltb least (length v)) refl
+          where
+            go : (t : Bool) → ltb least (length v) ≡ t → reachOf off (length v) ≤ top
+            go true q =
+                let h = ltb-true least (length v) q in
+                let k = f .short in
+                let r = reach-some off (length v) (omega arith) in
+                omega arith
+            go false q =
+                let h = ltb-false least (length v) q in
+                let k = at-least v (f .inside) in
+                let d : least ≡ length v = omega arith in
+                subst (λ (l : ℕ). reachOf off l ≤ top) d far
+
+        of-fits : (v : List ℕ) → Fitting x y off top v → PartAt x y n off (record { whole = around v; part = v; start = suc off })
+        unfolding around
+        of-fits v f =
+            let k = f .short in
+            record {
+              in-whole = around-in v f;
+              in-part = f .inside;
+              in-start = e;
+              starts = refl;
+              reached = subst (λ (l : ℕ). reachOf off (length v) ≤ l) (sym (tabulated-length (laid-over off v (longest .string)) top)) (around-reached v f);
+              found = λ j h. tabulated-word (laid-over off v (longest .string)) top (off + j) (omega arith) ∙ laid-inside off v (longest .string) j h;
+            }
+
+        in-fits : (v : Part) → PartAt x y n off v → Fitting x y off top (v .part)
+        in-fits v p =
+            let m = longest .most (v .whole) (p .in-whole) in
+            let k = p .reached in
+            let r = reach-end off (length (v .part)) in
+            record {
+              inside = p .in-part;
+              short = omega arith;
+              allowed = λ j h. ap (bit (word x (suc (off + j)))) (sym (p .found j h)) ∙ p .in-whole .symbol-bits (off + j) (omega arith);
+            }
+
+        parts-supported : (r : List ℕ) → Supports (Fitting x y off top) textBit 64 r → Supports (PartAt x y n off) (λ v. textBit (v .part)) 64 r
+        parts-supported r = moved-support (Fitting x y off top) (PartAt x y n off) textBit (λ v. textBit (v .part)) 64 r
+            (λ v f. (record { whole = around v; part = v; start = suc off }, of-fits v f, λ i k. refl)) (λ v p. (v .part, in-fits v p, λ i k. refl))
+
+        -- ---- N
+
+        start-supported : (v : Part) × PartAt x y n off v → Supports (PartAt x y n off) (λ v i. 2 ^ (v .start)) 1 (2 ^ suc off ∷ [])
+        start-supported some = record {
+          count = refl;
+          sound = λ i b h k.
+              let z : i ≡ 0 = omega arith in
+              let d : b ≡ suc off = pow-only (suc off) b (ap (λ (j : ℕ). bit (word (2 ^ suc off ∷ []) j) b) (sym z) ∙ k) in
+              (some .0, some .1, subst (λ (a : ℕ). bit (2 ^ (some .0 .start)) a ≡ true) (some .1 .starts ∙ sym d) (pow-self (some .0 .start)));
+          complete = λ i b h v p k.
+              let z : i ≡ 0 = omega arith in
+              ap (λ (j : ℕ). bit (word (2 ^ suc off ∷ []) j) b) z ∙ ap (λ (a : ℕ). bit (2 ^ a) b) (sym (p .starts)) ∙ k;
+        }
+
+        -- the start's rows and its bit
+        pub start-right : (a b : List ℕ) → Words a → 0 < word a 0 → Supports (Holds x y off least (reachOf off least)) textBit 64 a → Supports (Fitting x y off top) textBit 64 b
+            → Supported (PartAt x y n off) a b (2 ^ suc off)
+        start-right a b bd h sa sb =
+            let s = wholes-supported e a sa in
+            record { wholes = s; parts = parts-supported b sb; starts = start-supported (some-choice (PartAt x y n off) (λ v. v .whole) a s bd h) }

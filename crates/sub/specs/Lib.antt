@@ -1,0 +1,2 @@
+-- The definitions that the contracts of `sub` cite.
+pub mod Substrings
