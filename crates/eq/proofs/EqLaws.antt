@@ -13,7 +13,7 @@ use Rattle.model.specs.Support.{narrowed}
 use Rattle.rows.specs.Rows.{alone, trimmed, met, stored}
 use Rattle.rows.proofs.TrimLaws.{trimmed-supports}
 use Rattle.rows.proofs.MeetLaws.{met-length, met-words, in-met, of-met}
-use Rattle.rows.proofs.Alone.{Two, Met, two-narrowed}
+use Rattle.rows.proofs.TwoStrings.{Two, Met, two-narrowed}
 use Rattle.rows.proofs.PlacedKinds.{placed-two}
 use Rattle.laws.proofs.ListLaws.{same-true, same-refl}
 use Rattle.laws.proofs.RowLaws.{InRow, short-of}

@@ -18,7 +18,7 @@ use Rattle.words.specs.Ends.{Highest}
 use Rattle.rows.specs.Rows.{alone, trimmed, stored}
 use Rattle.rows.proofs.Fill.{array-words}
 use Rattle.rows.proofs.TrimLaws.{trimmed-supports}
-use Rattle.rows.proofs.Alone.{Met, two-narrowed}
+use Rattle.rows.proofs.TwoStrings.{Met, two-narrowed}
 use Rattle.laws.proofs.RowLaws.{InRow, short-of, used-length}
 use Rattle.laws.proofs.NeqLaws.{differ-true, differ-false, differ-sym}
 use Rattle.laws.proofs.Supports.{Supports, OfKinds, none-support, moved-support}

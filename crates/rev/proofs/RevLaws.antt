@@ -16,7 +16,7 @@ use Rattle.model.specs.Support.{narrowed}
 use Rattle.rows.specs.Rows.{alone, trimmed, met, joined, stored}
 use Rattle.rows.proofs.TrimLaws.{trimmed-supports}
 use Rattle.rows.proofs.MeetLaws.{met-length, met-words, in-met, of-met, and-bit, of-and-bit, joined-or}
-use Rattle.rows.proofs.Alone.{Two, Met, two-narrowed}
+use Rattle.rows.proofs.TwoStrings.{Two, Met, two-narrowed}
 use Rattle.laws.proofs.ListLaws.{same-true, same-refl, getD-reverse}
 use Rattle.laws.proofs.WordLaws.{pow-self, pow-only}
 use Rattle.laws.proofs.RowLaws.{InRow, short-of}

@@ -1,27 +1,28 @@
 -- Rows and numbers as a table of their own (`alone`): a relation's result is the narrowed table when each of its rows and numbers has the support of the
 -- choices that meet the relation. Assumes nothing.
 use mathlib.Core.Path.{_≡_, refl, sym, ap, subst, _∙_}
-use mathlib.Core.Bool.{Bool, true, cond, false≢true}
-use mathlib.Core.List.{List, [], _∷_, _++_, append-nil, List·Memᴰ·head, List·Memᴰ·tail}
+use mathlib.Core.Bool.{true, false≢true}
+use mathlib.Core.List.{List, [], _∷_, _++_, foldr}
 use Prim.Native.Nat.{ℕ, zero, suc, _+_, _*_, _^_, _<_}
 use native.Mathlib.Omega.{arith}
-use lib.Dec.{eqb}
-use lib.ListN.{length, take, drop, length-append}
+use lib.ListN.{length, take, drop, length-append, getD}
 use lib.Seq.{take-at, drop-append-add, getD-append-add}
-use Rattle.model.specs.Words.{bit, word, Words}
+use Rattle.model.specs.Words.{bit, word, Words, bits}
 use Rattle.model.specs.Domains.{Variable, str, num, row, strings, stringsOf, valuesOf}
-use Rattle.model.specs.Constraints.{Choice, Constraint, Automaton, variables, meets}
-use Rattle.model.specs.Solutions.{textBit}
+use Rattle.model.specs.Constraints.{Choice, Constraint, Automaton, variables, meets, Problem}
+use Rattle.model.specs.Solutions.{textBit, InRange}
 use Rattle.model.specs.Support.{touches, narrowed}
 use Rattle.rows.specs.Rows.{alone}
 use Rattle.rows.proofs.TrimLaws.{strings-allowed, allowed-strings}
 use Rattle.laws.proofs.ListLaws.{In}
-use Rattle.laws.proofs.WordLaws.{of-bits, in-bits}
+use Rattle.laws.proofs.WordLaws.{of-bits, in-bits, zero-bit}
 use Rattle.laws.proofs.RowLaws.{InRow}
 use Rattle.laws.proofs.DomainLaws.{by-word, InDomain}
 use Rattle.laws.proofs.SupportLaws.{Supporting, touched-text, touched-value}
 use Rattle.laws.proofs.Supports.{Supports, moved-support}
 use Rattle.laws.proofs.PlaceLaws.{narrowed-rows}
+use Rattle.model.specs.Rounds.{variablesOf}
+use Rattle.laws.proofs.NodeLaws.{in-variables, of-variables}
 
 -- ---- the rows and numbers of such a table
 
@@ -37,6 +38,32 @@ row-next x T i e =
 
 pub word-next : (x T : List ℕ) (i j : ℕ) → length x ≡ 64 → j ≡ 64 + i → word (x ++ T) j ≡ word T i
 word-next x T i j e q = let d : j ≡ length x + i = omega arith in ap (word (x ++ T)) d ∙ getD-append-add x T i 0
+
+-- ---- a table of rows and numbers
+
+-- the rows one after the other, then the number words
+abbrev pub together : List (List ℕ) → List ℕ → List ℕ
+together rows numbers = foldr _++_ numbers rows
+
+abbrev pub Rows64 : List (List ℕ) → Type 0
+Rows64 rows = (z : ℕ) → z < length rows → length (getD rows z []) ≡ 64
+
+pub together-length : (rows : List (List ℕ)) (numbers : List ℕ) → Rows64 rows → length (together rows numbers) ≡ 64 * length rows + length numbers
+together-length [] numbers h = omega arith
+together-length (r ∷ rows) numbers h =
+    let a = h 0 (omega arith) in
+    let b = together-length rows numbers (λ z l. h (suc z) (omega arith)) in
+    omega (arith, length-append r (together rows numbers))
+
+pub together-row : (rows : List (List ℕ)) (numbers : List ℕ) → Rows64 rows → (z : ℕ) → z < length rows → row (together rows numbers) z ≡ getD rows z []
+together-row [] numbers h z l = absurd (omega arith)
+together-row (r ∷ rows) numbers h zero l = row-head r (together rows numbers) (h 0 l)
+together-row (r ∷ rows) numbers h (suc z) l = row-next r (together rows numbers) z (h 0 (omega arith)) ∙ together-row rows numbers (λ y k. h (suc y) (omega arith)) z (omega arith)
+
+pub together-number : (rows : List (List ℕ)) (numbers : List ℕ) → Rows64 rows → (m : ℕ) → word (together rows numbers) (64 * length rows + m) ≡ word numbers m
+together-number [] numbers h m = let q : 64 * 0 + m ≡ m = omega arith in ap (word numbers) q
+together-number (r ∷ rows) numbers h m =
+    word-next r (together rows numbers) (64 * length rows + m) (64 * suc (length rows) + m) (h 0 (omega arith)) (omega arith) ∙ together-number rows numbers (λ y k. h (suc y) (omega arith)) m
 
 -- ---- a result by its rows and numbers
 
@@ -56,90 +83,78 @@ module _ (s t : ℕ) (ds : List Automaton) (c : Constraint) (named-texts : (x : 
 
 -- ---- the choices that support a constraint on such a table
 
--- the values of a number's word are its bits
-pub number-in : (s : ℕ) (T : List ℕ) (n b : ℕ) → Words T → bit (word T (64 * s + n)) b ≡ true → In b (valuesOf s T n)
-unfolding valuesOf
-number-in s T n b bd e = in-bits (word T (64 * s + n)) b e (bd (64 * s + n) b e)
+-- a table without numbers, and with one
+pub no-words : Words []
+no-words i b e = absurd (false≢true (sym (zero-bit b) ∙ e))
 
-pub of-number : (s : ℕ) (T : List ℕ) (n b : ℕ) → In b (valuesOf s T n) → bit (word T (64 * s + n)) b ≡ true
-unfolding valuesOf
-of-number s T n b m = of-bits (word T (64 * s + n)) m .0
+pub one-word : (n : ℕ) → ((b : ℕ) → bit n b ≡ true → b < 64) → Words (n ∷ [])
+one-word n h zero b e = h b e
+one-word n h (suc i) b e = no-words i b e
 
-pub string-in : (T r : List ℕ) (x : ℕ) → row T x ≡ r → Words r → (w : List ℕ) → InRow r w → In w (stringsOf T x)
+string-in : (T r : List ℕ) (x : ℕ) → row T x ≡ r → Words r → (w : List ℕ) → InRow r w → In w (stringsOf T x)
 string-in T r x e bd w i = subst (λ (z : List ℕ). In w (strings z)) (sym e) (allowed-strings r bd w i)
 
-pub of-string : (T r : List ℕ) (x : ℕ) → row T x ≡ r → Words r → (w : List ℕ) → In w (stringsOf T x) → InRow r w
+of-string : (T r : List ℕ) (x : ℕ) → row T x ≡ r → Words r → (w : List ℕ) → In w (stringsOf T x) → InRow r w
 of-string T r x e bd w m = strings-allowed r bd w (subst (λ (z : List ℕ). In w (strings z)) e m)
 
--- ---- relations between two strings
+module _ (ds : List Automaton) (c : Constraint) (rows : List (List ℕ)) (numbers : List ℕ) (named : variables c ≡ variablesOf (alone (length rows) (length numbers) ds)) (r64 : Rows64 rows)
+    (bx : (z : ℕ) → z < length rows → Words (getD rows z [])) (bn : Words numbers) where
+  abbrev own : Problem
+  own = alone (length rows) (length numbers) ds
 
-pub record Two : Type 0 where
-  pub first : List ℕ
-  pub second : List ℕ
+  -- a string of each row and a value of each number, and they meet the constraint
+  pub record Chosen (α : Choice) : Type 0 where
+    pub texts : (z : ℕ) → z < length rows → InRow (getD rows z []) (α .text z)
+    pub values : (m : ℕ) → m < length numbers → bit (word numbers m) (α .value m) ≡ true
+    pub meeting : meets (alone (length rows) (length numbers) ds) c α ≡ true
 
--- a string of each row, and the two meet the test
-pub record Met (test : List ℕ → List ℕ → Bool) (x y : List ℕ) (p : Two) : Type 0 where
-  pub in-first : InRow x (p .first)
-  pub in-second : InRow y (p .second)
-  pub meeting : test (p .first) (p .second) ≡ true
+  is-named : (v : Variable) → InRange own v → In v (variables c)
+  is-named v h = subst (λ (l : List Variable). In v l) (sym named) (in-variables own v h)
 
-chosen : Two → Choice
-chosen p = record { text = λ z. cond (eqb z 0) (p .first) (p .second); value = λ n. 0 }
-
-module _ (c : Constraint) (test : List ℕ → List ℕ → Bool) (vs : variables c ≡ str 0 ∷ str 1 ∷ []) (same : (α : Choice) → meets (alone 2 0 []) c α ≡ test (α .text 0) (α .text 1))
-    (x y : List ℕ) (lx : length x ≡ 64) (ly : length y ≡ 64) (bx : Words x) (bY : Words y) where
-  first-row : row (x ++ y) 0 ≡ x
-  first-row = row-head x y lx
-
-  second-row : row (x ++ y) 1 ≡ y
-  second-row =
-      let e : row (y ++ []) 0 ≡ y = row-head y [] ly in
-      row-next x y 0 lx ∙ ap (λ (l : List ℕ). row l 0) (sym (append-nil y)) ∙ e
-
-  met-supporting : (p : Two) → Met test x y p → Supporting (alone 2 0 []) c (x ++ y) (chosen p)
-  unfolding chosen alone
-  met-supporting p m = record {
-    in-domains = λ v k. at v (subst (λ (l : List Variable). In v l) vs k);
-    meeting = same (chosen p) ∙ m .meeting;
-  }
+  chosen-supporting : (α : Choice) → Chosen α → Supporting own c (together rows numbers) α
+  unfolding alone valuesOf
+  chosen-supporting α s = record { in-domains = λ v m. at v (of-variables own v (subst (λ (l : List Variable). In v l) named m)); meeting = s .meeting }
     where
-      at : (v : Variable) → In v (str 0 ∷ str 1 ∷ []) → InDomain 2 (x ++ y) (chosen p) v
-      at v (List·Memᴰ·head e) = subst (InDomain 2 (x ++ y) (chosen p)) (sym e) (string-in (x ++ y) x 0 first-row bx (p .first) (m .in-first))
-      at v (List·Memᴰ·tail (List·Memᴰ·head e)) = subst (InDomain 2 (x ++ y) (chosen p)) (sym e) (string-in (x ++ y) y 1 second-row bY (p .second) (m .in-second))
+      at : (v : Variable) → InRange own v → InDomain (length rows) (together rows numbers) α v
+      at (str z) h = string-in (together rows numbers) (getD rows z []) z (together-row rows numbers r64 z h) (bx z h) (α .text z) (s .texts z h)
+      at (num m) h = subst (λ (w : ℕ). In (α .value m) (bits w)) (sym (together-number rows numbers r64 m)) (in-bits (word numbers m) (α .value m) (s .values m h) (bn m (α .value m) (s .values m h)))
 
-  supporting-met : (α : Choice) → Supporting (alone 2 0 []) c (x ++ y) α → Met test x y (record { first = α .text 0; second = α .text 1 })
-  supporting-met α s = record {
-    in-first = of-string (x ++ y) x 0 first-row bx (α .text 0) (s .in-domains (str 0) (subst (λ (l : List Variable). In (str 0) l) (sym vs) (List·Memᴰ·head refl)));
-    in-second = of-string (x ++ y) y 1 second-row bY (α .text 1) (s .in-domains (str 1) (subst (λ (l : List Variable). In (str 1) l) (sym vs) (List·Memᴰ·tail (List·Memᴰ·head refl))));
-    meeting = sym (same α) ∙ s .meeting;
+  supporting-chosen : (α : Choice) → Supporting own c (together rows numbers) α → Chosen α
+  unfolding alone valuesOf
+  supporting-chosen α s = record {
+    texts = λ z h. of-string (together rows numbers) (getD rows z []) z (together-row rows numbers r64 z h) (bx z h) (α .text z) (s .in-domains (str z) (is-named (str z) h));
+    values = λ m h. of-bits (word numbers m) (subst (λ (w : ℕ). In (α .value m) (bits w)) (together-number rows numbers r64 m) (s .in-domains (num m) (is-named (num m) h))) .0;
+    meeting = s .meeting;
   }
 
-  -- the two rows that have the support of the pairs that meet the test are the narrowed table
-  pub two-narrowed : (rx ry : List ℕ) → Supports (Met test x y) (λ p. textBit (p .first)) 64 rx → Supports (Met test x y) (λ p. textBit (p .second)) 64 ry
-      → rx ++ ry ≡ narrowed (alone 2 0 []) c (x ++ y)
-  unfolding chosen
-  two-narrowed rx ry sx sy = alone-narrowed 2 0 [] c named (λ n h. absurd (omega arith)) (x ++ y) (rx ++ ry)
-      (omega (arith, length-append x y)) (omega (arith, length-append rx ry, sx .count, sy .count)) texts (λ n h. absurd (omega arith))
-    where
-      named : (z : ℕ) → z < 2 → In (str z) (variables c)
-      named z h = subst (λ (l : List Variable). In (str z) l) (sym vs) (at z h)
-        where
-          at : (z : ℕ) → z < 2 → In (str z) (str 0 ∷ str 1 ∷ [])
-          at zero h = List·Memᴰ·head refl
-          at (suc zero) h = List·Memᴰ·tail (List·Memᴰ·head refl)
-          at (suc (suc z)) h = absurd (omega arith)
+  -- Choices may be of a type K of their own, read as a choice for the table and back. Rows and numbers that have the support of those with `Ok` are the
+  -- narrowed table.
+  module _ {K : Type 0} (Ok : K → Type 0) (to : K → Choice) (back : Choice → K) (chosen : (v : K) → Ok v → Chosen (to v)) (ok : (α : Choice) → Chosen α → Ok (back α))
+      (same-texts : (α : Choice) → Chosen α → (z : ℕ) → z < length rows → to (back α) .text z ≡ α .text z)
+      (same-values : (α : Choice) → Chosen α → (m : ℕ) → m < length numbers → to (back α) .value m ≡ α .value m) where
+    pub rows-narrowed : (rs : List (List ℕ)) (ns : List ℕ) → length rs ≡ length rows → length ns ≡ length numbers
+        → ((z : ℕ) → z < length rows → Supports Ok (λ v. textBit (to v .text z)) 64 (getD rs z [])) → ((m : ℕ) → m < length numbers → Supports Ok (λ v i. 2 ^ (to v .value m)) 1 (word ns m ∷ []))
+        → together rs ns ≡ narrowed (alone (length rows) (length numbers) ds) c (together rows numbers)
+    unfolding alone
+    rows-narrowed rs ns lr lw texts values =
+        alone-narrowed (length rows) (length numbers) ds c (λ z h. is-named (str z) h) (λ m h. is-named (num m) h) (together rows numbers) (together rs ns)
+        (together-length rows numbers r64) (together-length rs ns s64 ∙ size)
+        (λ z h. subst (Supports (Supporting own c (together rows numbers)) (λ α. textBit (α .text z)) 64) (sym (together-row rs ns s64 z (omega arith)))
+        (moved-support Ok (Supporting own c (together rows numbers)) (λ v. textBit (to v .text z)) (λ α. textBit (α .text z)) 64 (getD rs z [])
+        (λ v o. (to v, chosen-supporting (to v) (chosen v o), λ i k. refl))
+        (λ α s. (back α, ok α (supporting-chosen α s), λ i k. ap (λ (w : List ℕ). textBit w i) (same-texts α (supporting-chosen α s) z h)))
+        (texts z h)))
+        (λ m h. subst (λ (w : ℕ). Supports (Supporting own c (together rows numbers)) (λ α i. 2 ^ (α .value m)) 1 (w ∷ [])) (sym (number-at m))
+        (moved-support Ok (Supporting own c (together rows numbers)) (λ v i. 2 ^ (to v .value m)) (λ α i. 2 ^ (α .value m)) 1 (word ns m ∷ [])
+        (λ v o. (to v, chosen-supporting (to v) (chosen v o), λ i k. refl))
+        (λ α s. (back α, ok α (supporting-chosen α s), λ i k. ap (λ (b : ℕ). 2 ^ b) (same-values α (supporting-chosen α s) m h)))
+        (values m h)))
+      where
+        s64 : Rows64 rs
+        s64 z h = texts z (omega arith) .count
 
-      left : row (rx ++ ry) 0 ≡ rx
-      left = row-head rx ry (sx .count)
+        size : 64 * length rs + length ns ≡ 64 * length rows + length numbers
+        size = omega arith
 
-      right : row (rx ++ ry) 1 ≡ ry
-      right = row-next rx ry 0 (sx .count) ∙ ap (λ (l : List ℕ). row l 0) (sym (append-nil ry)) ∙ row-head ry [] (sy .count)
-
-      texts : (z : ℕ) → z < 2 → Supports (Supporting (alone 2 0 []) c (x ++ y)) (λ α. textBit (α .text z)) 64 (row (rx ++ ry) z)
-      texts zero h = subst (Supports (Supporting (alone 2 0 []) c (x ++ y)) (λ α. textBit (α .text 0)) 64) (sym left)
-          (moved-support (Met test x y) (Supporting (alone 2 0 []) c (x ++ y)) (λ p. textBit (p .first)) (λ α. textBit (α .text 0)) 64 rx
-          (λ p m. (chosen p, met-supporting p m, λ i k. refl)) (λ α s. (record { first = α .text 0; second = α .text 1 }, supporting-met α s, λ i k. refl)) sx)
-      texts (suc zero) h = subst (Supports (Supporting (alone 2 0 []) c (x ++ y)) (λ α. textBit (α .text 1)) 64) (sym right)
-          (moved-support (Met test x y) (Supporting (alone 2 0 []) c (x ++ y)) (λ p. textBit (p .second)) (λ α. textBit (α .text 1)) 64 ry
-          (λ p m. (chosen p, met-supporting p m, λ i k. refl)) (λ α s. (record { first = α .text 0; second = α .text 1 }, supporting-met α s, λ i k. refl)) sy)
-      texts (suc (suc z)) h = absurd (omega arith)
+        number-at : (m : ℕ) → word (together rs ns) (64 * length rows + m) ≡ word ns m
+        number-at m = let e : 64 * length rows + m ≡ 64 * length rs + m = omega arith in ap (word (together rs ns)) e ∙ together-number rs ns s64 m

@@ -6,6 +6,7 @@ pub mod ChoiceLaws
 pub mod Windows
 pub mod Alone
 pub mod OneString
+pub mod TwoStrings
 pub mod StoreLaws
 pub mod Placed
 pub mod PlacedKinds

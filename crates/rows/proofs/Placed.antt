@@ -3,11 +3,11 @@
 use mathlib.Core.Path.{_≡_, refl, sym, ap, _∙_}
 use mathlib.Core.Logic.{_≢_}
 use mathlib.Core.Bool.{false, cond, false≢true}
-use mathlib.Core.List.{List, [], _∷_, _++_, map, foldr, List·Memᴰ·head, List·Memᴰ·tail}
+use mathlib.Core.List.{List, [], _∷_, map, List·Memᴰ·head, List·Memᴰ·tail}
 use Prim.Native.Nat.{ℕ, zero, suc, _+_, _*_, _≤_, _<_}
 use native.Mathlib.Omega.{arith}
 use lib.Dec.{eqb}
-use lib.ListN.{length, getD, set, length-append, length-map, length-set}
+use lib.ListN.{length, getD, set, length-map, length-set}
 use lib.Seq.{getD-set-same, getD-set-other, ext-getD}
 use borrow.Author.Tests.{eq-eqb, ne-eqb}
 use Rattle.model.specs.Words.{word}
@@ -16,7 +16,7 @@ use Rattle.model.specs.Constraints.{Choice, Problem, Constraint, Automaton, wid
 use Rattle.model.specs.Solutions.{InRange}
 use Rattle.model.specs.Support.{touches, narrowed}
 use Rattle.rows.specs.Rows.{alone, stored}
-use Rattle.rows.proofs.Alone.{row-head, row-next, word-next}
+use Rattle.rows.proofs.Alone.{together, Rows64, together-length, together-row, together-number}
 use Rattle.rows.proofs.StoreLaws.{stored-length, row-stored, row-stored-other, stored-untouched}
 use Rattle.laws.proofs.ListLaws.{In, getD-in}
 use Rattle.laws.proofs.DomainLaws.{row-length, row-word}
@@ -43,32 +43,6 @@ index-of-position (x ∷ xs) d (suc z) h =
 
 abbrev pub places : List ℕ → List ℕ → Places
 places xs ms = record { text-to = λ z. getD xs z 0; value-to = λ z. getD ms z 0; text-from = λ y. indexOf y xs; value-from = λ m. indexOf m ms }
-
--- ---- a table of rows and numbers
-
--- the rows one after the other, then the number words
-abbrev pub together : List (List ℕ) → List ℕ → List ℕ
-together rows numbers = foldr _++_ numbers rows
-
-abbrev pub Rows64 : List (List ℕ) → Type 0
-Rows64 rows = (z : ℕ) → z < length rows → length (getD rows z []) ≡ 64
-
-together-length : (rows : List (List ℕ)) (numbers : List ℕ) → Rows64 rows → length (together rows numbers) ≡ 64 * length rows + length numbers
-together-length [] numbers h = omega arith
-together-length (r ∷ rows) numbers h =
-    let a = h 0 (omega arith) in
-    let b = together-length rows numbers (λ z l. h (suc z) (omega arith)) in
-    omega (arith, length-append r (together rows numbers))
-
-together-row : (rows : List (List ℕ)) (numbers : List ℕ) → Rows64 rows → (z : ℕ) → z < length rows → row (together rows numbers) z ≡ getD rows z []
-together-row [] numbers h z l = absurd (omega arith)
-together-row (r ∷ rows) numbers h zero l = row-head r (together rows numbers) (h 0 l)
-together-row (r ∷ rows) numbers h (suc z) l = row-next r (together rows numbers) z (h 0 (omega arith)) ∙ together-row rows numbers (λ y k. h (suc y) (omega arith)) z (omega arith)
-
-together-number : (rows : List (List ℕ)) (numbers : List ℕ) → Rows64 rows → (m : ℕ) → word (together rows numbers) (64 * length rows + m) ≡ word numbers m
-together-number [] numbers h m = let q : 64 * 0 + m ≡ m = omega arith in ap (word numbers) q
-together-number (r ∷ rows) numbers h m =
-    word-next r (together rows numbers) (64 * length rows + m) (64 * suc (length rows) + m) (h 0 (omega arith)) (omega arith) ∙ together-number rows numbers (λ y k. h (suc y) (omega arith)) m
 
 -- ---- stored, one after the other
 
