@@ -4,6 +4,7 @@ set -u
 cd "$(dirname "$0")" || exit 1
 
 python3 tests/documents.py || exit 1
+python3 tests/edges.py || exit 1
 
 work=$(mktemp -d) || exit 1
 trap 'rm -rf "$work"' EXIT

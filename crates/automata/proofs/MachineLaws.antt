@@ -1,6 +1,6 @@
 -- An automaton in its bytes: what the model reads there is whole, and where each move stands. Assumes nothing.
 use mathlib.Core.Path.{_≡_, refl, sym, ap, subst, _∙_}
-use mathlib.Core.List.{List, [], _∷_}
+use mathlib.Core.List.{List}
 use mathlib.Core.Option.{some}
 use Prim.Native.Nat.{ℕ, suc, _+_, _*_, _≤_, _<_}
 use native.Mathlib.Nat.{mul-le-mul-right, suc-mul}
@@ -16,6 +16,14 @@ use Rattle.laws.proofs.ListLaws.{given-some, and-true, of-all, getD-in}
 use Rattle.automata.specs.Machine.{stateCount, machine, Whole}
 use Rattle.laws.proofs.ReadingLaws.{pieces-word}
 
+-- ---- the n bytes behind the accepting states
+
+pub moves-size : (n : ℕ) (bs : List ℕ) → 5 + n ≤ length bs → length (part 5 n bs) ≡ n
+moves-size n bs h = length-take-le n (drop 5 bs) (omega (arith, length-drop 5 bs))
+
+pub moves-byte : (n : ℕ) (bs : List ℕ) (j : ℕ) → j < n → getD (part 5 n bs) j 0 ≡ getD bs (5 + j) 0
+moves-byte n bs j h = getD-take n (drop 5 bs) j 0 h ∙ getD-drop 5 bs j 0
+
 -- ---- what refusal 5 leaves
 
 pub automaton-whole : (k : ℕ) (bs : List ℕ) (A : Automaton) → automaton k bs ≡ some A → Whole k bs × (A ≡ machine k bs)
@@ -28,7 +36,7 @@ automaton-whole k bs A e =
     let t₃ = and-true _ _ (t₄ .0) in
     let t₂ = and-true _ _ (t₃ .0) in
     let long : 5 + q * k ≤ length bs = leb-true (5 + q * k) (length bs) (t₃ .1) in
-    let size : length (part 5 (q * k) bs) ≡ q * k = moves-size (q * k) long in (
+    let size : length (part 5 (q * k) bs) ≡ q * k = moves-size (q * k) bs long in (
       record {
         some-state = leb-true 1 q (t₂ .0);
         most-states = leb-true q 32 (t₂ .1);
@@ -36,29 +44,16 @@ automaton-whole k bs A e =
         accepting-known = t₄ .1;
         moves-known = λ j h.
             let l : j < length (part 5 (q * k) bs) = subst (λ (n : ℕ). j < n) (sym size) h in
-            let w : getD (part 5 (q * k) bs) j 0 ≡ getD bs (5 + j) 0 = getD-take (q * k) (drop 5 bs) j 0 h ∙ getD-drop 5 bs j 0 in
-            subst (λ (p : ℕ). p < q) w (ltb-true (getD (part 5 (q * k) bs) j 0) q (of-all (λ p. ltb p q) (t₅ .1) (getD-in (part 5 (q * k) bs) j 0 l)));
+            subst (λ (p : ℕ). p < q) (moves-byte (q * k) bs j h) (ltb-true (getD (part 5 (q * k) bs) j 0) q (of-all (λ p. ltb p q) (t₅ .1) (getD-in (part 5 (q * k) bs) j 0 l)));
       },
       g .1,
     )
-  where
-    moves-size : (n : ℕ) → 5 + n ≤ length bs → length (part 5 n bs) ≡ n
-    moves-size n h = length-take-le n (drop 5 bs) (omega (arith, length-drop 5 bs))
 
 -- ---- the accepting states
 
 pub machine-accepting : (k : ℕ) (bs : List ℕ) → machine k bs .accepting ≡ little (part 1 4 bs)
 unfolding machine
 machine-accepting k bs = refl
-
-pub little-four : (bs : List ℕ) → 5 ≤ length bs → getD bs 1 0 + 256 * (getD bs 2 0 + 256 * (getD bs 3 0 + 256 * getD bs 4 0)) ≡ little (part 1 4 bs)
-unfolding little
-little-four [] h = absurd (omega arith)
-little-four (a ∷ []) h = absurd (omega arith)
-little-four (a ∷ b ∷ []) h = absurd (omega arith)
-little-four (a ∷ b ∷ c ∷ []) h = absurd (omega arith)
-little-four (a ∷ b ∷ c ∷ d ∷ []) h = absurd (omega arith)
-little-four (a ∷ b ∷ c ∷ d ∷ e ∷ bs) h = omega arith
 
 -- ---- the moves
 

@@ -1,7 +1,11 @@
 // An automaton in its bytes: the state count q, four bytes of accepting states, then for each of the q states a row of k bytes, the next state for each
-// symbol. A set of states is a `u32`, bit p for state p; states and symbols are `usize`. `next` alone reads a move.
+// symbol. A set of states is a `u32`, bit p for state p; states and symbols are `usize`. `next` alone follows a move; `walk` goes from automaton to automaton.
 //
 // Assumes nothing. `requires` asks what refusals 3 and 5 leave: at most 64 symbols, and an automaton's whole bytes.
+mod walk;
+
+pub use walk::all_whole;
+pub use walk::start;
 ghost use mathlib.Core.Path.{_≡_};
 ghost use Prim.Native.Nat.{_<_, _≤_, _^_};
 ghost use lib.ListN.{length};
@@ -18,12 +22,12 @@ pub fn states(d: &[u8]) -> usize
     d[0] as usize
 }
 
-// The accepting states, little-endian.
+// The accepting states.
 pub fn accepting(d: &[u8]) -> u32
     requires { ⌜ 5 ≤ length (now d) ⌝ }
     ensures { λ r. ⌜ r ≡ little (part 1 4 (now (d .entry))) ⌝ }
 {
-    d[1] as u32 + 256 * (d[2] as u32 + 256 * (d[3] as u32 + 256 * (d[4] as u32)))
+    little::four(d, 1)
 }
 
 // The next state from state p by symbol a.

@@ -1,6 +1,7 @@
 -- The laws about the definitions, each module after those it cites: lists and words; a row, a table and its domains; one narrowing step; rounds; solutions;
 -- the search tree; the file; demand 3. `Supports`, `NeqLaws` and `LoopLaws` are for the code above: a step's parts, Neq's step, the search's loop.
 pub mod ListLaws
+pub mod CollectLaws
 pub mod WordLaws
 pub mod BitsLaws
 pub mod ShiftLaws

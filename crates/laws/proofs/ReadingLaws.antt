@@ -1,6 +1,6 @@
 -- Laws of reading: what a file that is accepted holds. Assumes nothing.
 use mathlib.Core.Path.{_≡_, refl, sym, ap, subst, _∙_}
-use mathlib.Core.Bool.{Bool, true, false, false≢true}
+use mathlib.Core.Bool.{true, false}
 use mathlib.Core.List.{List, [], _∷_, map, List·Memᴰ·head, List·Memᴰ·tail, List·Memᴰ·not-nil}
 use mathlib.Core.Option.{some, Option·none-ne-some, Option·some-injective}
 use Prim.Native.Nat.{ℕ, zero, suc, _+_, _-_, _*_, _^_, _<_}
@@ -9,7 +9,6 @@ use native.Mathlib.Nat.{pow-suc, suc-mul, zero-mul}
 use lib.ListN.{length, getD, take, drop, getElem?, length-map, List·getD-map}
 use lib.Seq.{getD-drop, drop-drop, getD-take}
 use borrow.Author.Tests.{ltb-true, not-true, eq-eqb}
-use Rattle.model.specs.Lists.{any}
 use Rattle.model.specs.Words.{bit, word, Words}
 use Rattle.model.specs.Domains.{Variable, str, num}
 use Rattle.model.specs.Constraints.{Problem, Constraint, variables, width}
@@ -17,7 +16,8 @@ use Rattle.model.specs.Solutions.{InRange, WellFormed}
 use Rattle.model.specs.Replies.{answered}
 use Rattle.model.specs.Layout.{Bytes, little, Parts, trailer, tableWords, layout}
 use Rattle.model.specs.Reading.{pieces, string, number, names, Kind, kinds, kindOf, decode, repeats, Accepted, problemOf, reading}
-use Rattle.laws.proofs.ListLaws.{In, in-any, given-some, bind-some, collect-in, and-true, true-and}
+use Rattle.laws.proofs.ListLaws.{In, given-some, bind-some, collect-in, and-true, true-and}
+use Rattle.laws.proofs.CollectLaws.{any-false}
 use Rattle.laws.proofs.WordLaws.{bit-high}
 use Rattle.laws.proofs.ReplyLaws.{require-answered, obtain-answered, andThen-answered, answered-inj}
 use Rattle.laws.proofs.CallLaws.{lendable}
@@ -172,17 +172,10 @@ problemOf-sound p bytes a e =
     let q : record { problem = P; table = F } ≡ a = answered-inj (t₈ .1) in
     subst Sound q (record {
       well-formed = λ c m. let u = collect-in _ _ (t₇ .0) (t₇ .1) c m in decode-range P (p .automata) (u .0) c (u .1);
-      distinct = λ c m. none-repeats (t₇ .0) (not-true _ (t₈ .0)) c m;
+      distinct = λ c m. any-false (λ c. repeats (variables c)) (not-true _ (t₈ .0)) m;
       words = words-pieces (64 * p .strings + p .numbers) (p .tableBytes) bytes;
       own-table = true-and (eq-eqb (length F) (width P) (length-map (pieces (64 * p .strings + p .numbers) 8 (p .tableBytes)) little ∙ pieces-length (64 * p .strings + p .numbers) 8 (p .tableBytes))) (t₆ .0);
     })
-  where
-    none-repeats : (cs : List Constraint) → any (λ c. repeats (variables c)) cs ≡ false → (c : Constraint) → In c cs → repeats (variables c) ≡ false
-    none-repeats cs n c m = go (repeats (variables c)) refl
-      where
-        go : (b : Bool) → repeats (variables c) ≡ b → b ≡ false
-        go true q = absurd (false≢true (sym n ∙ in-any (λ c. repeats (variables c)) m q))
-        go false q = refl
 
 pub layout-bytes : (file : List ℕ) → Bytes file → (p : Parts) → layout file ≡ answered p → Bytes (p .tableBytes)
 unfolding layout

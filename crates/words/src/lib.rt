@@ -2,9 +2,9 @@
 //
 // Assumes nothing. A position is a `usize` below 64; a word that is asked for its lowest or highest bit has one.
 ghost use mathlib.Core.Path.{_≡_};
-ghost use Prim.Native.Nat.{_<_, _+_, _-_, _^_};
+ghost use Prim.Native.Nat.{_<_, _≤_, _+_, _-_, _^_};
 ghost use lib.ListN.{length};
-ghost use Rattle.model.specs.Words.{bit, bits};
+ghost use Rattle.model.specs.Words.{bit, bits, noneFrom};
 ghost use Rattle.words.specs.Ends.{Highest, Lowest};
 
 // The word of the lengths 0 to i, for each i from 0 to 63.
@@ -97,6 +97,14 @@ pub fn low_mask(i: usize) -> u64
     ensures { λ r. ⌜ r ≡ 2 ^ (i + 1) - 1 ⌝ }
 {
     LOW[i]
+}
+
+// Whether w has no bit at k or above.
+pub fn none_from(w: u64, k: usize) -> bool
+    requires { ⌜ (1 ≤ k) × (k ≤ 64) ⌝ }
+    ensures { λ r. ⌜ r ≡ noneFrom k w ⌝ }
+{
+    w <= low_mask(k - 1)
 }
 
 // How many bits of w are set.

@@ -1,0 +1,2 @@
+-- The definitions that the contracts of the entries cite.
+pub mod Answers

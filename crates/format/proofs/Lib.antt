@@ -1,0 +1,5 @@
+-- The laws of a file that is looked over: the number it is refused with, and what an accepted file holds.
+pub mod RefusalLaws
+pub mod PartLaws
+pub mod OutcomeLaws
+pub mod AcceptLaws

@@ -1,0 +1,2 @@
+-- The definitions that the contracts of `format` cite.
+pub mod Accepting

@@ -1,0 +1,3 @@
+-- The laws of the trailer, and of the reply that its numbers give.
+pub mod TrailerLaws
+pub mod ReplyOfLaws

@@ -1,0 +1,3 @@
+-- The definitions that the contracts of `layout` cite.
+pub mod Heads
+pub mod Replied

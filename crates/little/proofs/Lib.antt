@@ -1,0 +1,2 @@
+-- Parts of bytes, and the numbers that they are.
+pub mod LittleLaws
