@@ -22,7 +22,7 @@ use Rattle.rows.proofs.Windows.{take-supports, drop-supports}
 use Rattle.laws.proofs.ListLaws.{same-true, same-refl}
 use Rattle.laws.proofs.ShiftLaws.{bit-shr, of-shifted, in-shifted}
 use Rattle.laws.proofs.RowLaws.{InRow, short-of}
-use Rattle.laws.proofs.Supports.{Supports, OfKinds, moved-support, none-support, next-kind}
+use Rattle.laws.proofs.Supports.{Supports, OfKinds, moved-support, none-support, next-kind, skip-kind}
 use Rattle.cat.specs.Splits.{Three, Split, Supported, Whole}
 use Rattle.rows.proofs.ChoiceLaws.{some-choice, no-choice}
 use Rattle.cat.proofs.ThreeRows.{Met, three-narrowed}
@@ -195,7 +195,7 @@ none-supported Ok never rx ry rz ex ey ez = record {
 
 module _ (x y z : List ℕ) where
   -- x does not allow the length p
-  pub split-barred : (p : ℕ) → bit (word x 0) p ≡ false → (v : Three) → Split x y z p v → ⊥
+  split-barred : (p : ℕ) → bit (word x 0) p ≡ false → (v : Three) → Split x y z p v → ⊥
   split-barred p e v s = false≢true (sym e ∙ ap (bit (word x 0)) (sym (s .long)) ∙ s .in-first .length-bit)
 
   pub splits-start : (rx ry rz : List ℕ) → rx ≡ replicate 64 0 → ry ≡ replicate 64 0 → rz ≡ replicate 64 0 → Supported (OfKinds (Split x y z) 0) rx ry rz
@@ -207,6 +207,14 @@ module _ (x y z : List ℕ) where
     firsts = rw (joined-or ax bx) (next-kind (Split x y z) (λ v. textBit (v .first)) 64 p ax bx (s .firsts) (t .firsts));
     seconds = rw (joined-or ay bY) (next-kind (Split x y z) (λ v. textBit (v .second)) 64 p ay bY (s .seconds) (t .seconds));
     thirds = rw (joined-or az bz) (next-kind (Split x y z) (λ v. textBit (v .third)) 64 p az bz (s .thirds) (t .thirds));
+  }
+
+  -- at a length that x does not allow
+  pub splits-skip : (p : ℕ) → bit (word x 0) p ≡ false → (bx bY bz : List ℕ) → Supported (OfKinds (Split x y z) p) bx bY bz → Supported (OfKinds (Split x y z) (suc p)) bx bY bz
+  splits-skip p e bx bY bz t = record {
+    firsts = skip-kind (Split x y z) (λ v. textBit (v .first)) 64 p bx (split-barred p e) (t .firsts);
+    seconds = skip-kind (Split x y z) (λ v. textBit (v .second)) 64 p bY (split-barred p e) (t .seconds);
+    thirds = skip-kind (Split x y z) (λ v. textBit (v .third)) 64 p bz (split-barred p e) (t .thirds);
   }
 
   module _ (lx : length x ≡ 64) (ly : length y ≡ 64) (lz : length z ≡ 64) (bx : Words x) (bY : Words y) (bz : Words z) where

@@ -2,9 +2,11 @@
 //
 // Assumes nothing, and requires nothing of its rows. A step is a union over the lengths p of X.
 ghost use mathlib.Core.Path.{_≡_};
+ghost use mathlib.Core.Bool.{true};
 ghost use mathlib.Core.List.{[], _++_};
 ghost use Prim.Native.Nat.{_<_};
 ghost use lib.ListN.{replicate};
+ghost use Rattle.model.specs.Words.{bit, word};
 ghost use Rattle.model.specs.Constraints.{cat};
 ghost use Rattle.model.specs.Support.{narrowed};
 ghost use Rattle.rows.specs.Rows.{alone, joined};
@@ -52,15 +54,12 @@ fn whole(x: [u64; 64], y: [u64; 64], z: [u64; 64], lengths: u64, p: usize) -> [u
     r
 }
 
-// What the choices with an X of p symbols use. One row holds them for all lengths of Y, which count from p on; lengths and symbols of all three strings
+// What the choices with an X of p symbols use, a length that X allows. One row holds them for all lengths of Y, which count from p on; lengths and symbols of all three strings
 // come from it.
 fn split(x: [u64; 64], y: [u64; 64], z: [u64; 64], p: usize) -> Rows
-    requires { ⌜ p < 64 ⌝ }
+    requires { ⌜ (p < 64) × (bit (word x 0) p ≡ true) ⌝ }
     ensures { λ r. ⌜ Supported (Split x y z p) (r .x) (r .y) (r .z) ⌝ }
 {
-    if !words::has(x[0], p) {
-        return nothing();
-    }
     let lengths = ((z[0] >> p) & y[0]) << p;
     let t = rows::trim(whole(x, y, z, lengths, p));
     if t[0] == 0 {
@@ -79,11 +78,14 @@ fn split(x: [u64; 64], y: [u64; 64], z: [u64; 64], p: usize) -> Rows
 pub fn narrow(x: [u64; 64], y: [u64; 64], z: [u64; 64]) -> Rows
     ensures { λ r. ⌜ r .x ++ (r .y ++ r .z) ≡ narrowed (alone 3 0 []) (cat 0 1 2) (x ++ (y ++ z)) ⌝ }
 {
+    let lengths = x[0];
     let mut r = nothing();
     let mut p: usize = 0;
     while p < 64 {
-        let a = split(x, y, z, p);
-        r = union(a, r);
+        if words::has(lengths, p) {
+            let a = split(x, y, z, p);
+            r = union(a, r);
+        }
         p += 1;
     }
     r

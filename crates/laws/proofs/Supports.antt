@@ -6,6 +6,7 @@ use mathlib.Core.Logic.{_⊎_, inl, inr, ⊎-elim}
 use mathlib.Core.Bool.{Bool, true, false, false≢true}
 use mathlib.Core.List.{List, [], _∷_, map, List·Memᴰ·head}
 use Prim.Native.Nat.{ℕ, suc, _+_, _*_, _^_, _≤_, _<_, zero}
+use native.Mathlib.Nat.{eq-or-lt-of-le, le-of-suc-le-suc}
 use native.Mathlib.Omega.{arith}
 use lib.Bits.{bitOr}
 use lib.Dec.{eqb}
@@ -122,6 +123,14 @@ next-kind {K} A bitsOf n m r s p q = moved-support (λ v. A m v ⊎ OfKinds A m 
         go : (c : Bool) → eqb t m ≡ c → A m v ⊎ OfKinds A m v
         go true e = inl (subst (λ (k : ℕ). A k v) (eqb-true t m e) x)
         go false e = let ne = eqb-false t m e in inr (t, omega arith, x)
+
+-- a kind that nothing is of adds nothing
+pub skip-kind : {K : Type 0} (A : ℕ → K → Type 0) (bitsOf : K → ℕ → ℕ) (n m : ℕ) (s : List ℕ) → ((v : K) → A m v → ⊥) → Supports (OfKinds A m) bitsOf n s
+    → Supports (OfKinds A (suc m)) bitsOf n s
+skip-kind {K} A bitsOf n m s never q = moved-support (OfKinds A m) (OfKinds A (suc m)) bitsOf bitsOf n s
+    (λ v ok. let h = ok .1 in (v, (ok .0, omega arith, ok .2), λ i h. refl))
+    (λ v ok. (v, ⊎-elim (λ e. absurd (never v (subst (λ (k : ℕ). A k v) e (ok .2)))) (λ h. (ok .0, h, ok .2)) (eq-or-lt-of-le (le-of-suc-le-suc (ok .1))), λ i h. refl))
+    q
 
 -- ---- what a narrowing step leaves has the support of the choices that support the constraint
 

@@ -1,10 +1,9 @@
 -- Rev by support: at one length, the strings of X that are one of Y read backwards are those of X met with Y's places backwards. Assumes nothing.
 use mathlib.Core.Path.{_≡_, refl, sym, ap, subst, _∙_}
-use mathlib.Core.Logic.{⊎-elim, _≢_}
+use mathlib.Core.Logic.{_≢_}
 use mathlib.Core.Bool.{true, false, false≢true}
 use mathlib.Core.List.{List, [], _++_, reverse, reverse-reverse}
 use Prim.Native.Nat.{ℕ, suc, _-_, _^_, _<_}
-use native.Mathlib.Nat.{le-of-suc-le-suc, eq-or-lt-of-le}
 use native.Mathlib.Omega.{arith}
 use lib.Bits.{bitAnd}
 use lib.ListN.{length, getD, length-reverse}
@@ -20,7 +19,7 @@ use Rattle.rows.proofs.TwoStrings.{Two, Met, two-narrowed}
 use Rattle.laws.proofs.ListLaws.{same-true, same-refl, getD-reverse}
 use Rattle.laws.proofs.WordLaws.{pow-self, pow-only}
 use Rattle.laws.proofs.RowLaws.{InRow, short-of}
-use Rattle.laws.proofs.Supports.{Supports, moved-support, OfKinds, next-kind}
+use Rattle.laws.proofs.Supports.{Supports, moved-support, OfKinds, next-kind, skip-kind}
 use Rattle.rev.specs.Turned.{Backwards, Turned, Turning}
 use Rattle.model.specs.Domains.{row}
 use Rattle.rows.proofs.PlacedKinds.{placed-two}
@@ -67,10 +66,7 @@ module _ (x y : List ℕ) (l : ℕ) (bx : Words x) (allowed : bit (bitAnd (word 
 
 -- a turn at a length that not both rows allow
 pub unchanged : (x y : List ℕ) (l : ℕ) → bit (bitAnd (word x 0) (word y 0)) l ≡ false → (r : List ℕ) → Turning x y l r → Turning x y (suc l) r
-unchanged x y l e r s = moved-support (OfKinds (Turned x y) l) (OfKinds (Turned x y) (suc l)) textBit textBit 64 r
-    (λ u ok. let h = ok .1 in (u, (ok .0, omega arith, ok .2), λ j h. refl))
-    (λ u ok. (u, ⊎-elim (λ q. absurd (never u (subst (λ (m : ℕ). Turned x y m u) q (ok .2)))) (λ h. (ok .0, h, ok .2)) (eq-or-lt-of-le (le-of-suc-le-suc (ok .1))), λ j h. refl))
-    s
+unchanged x y l e r s = skip-kind (Turned x y) textBit 64 l r never s
   where
     never : (u : List ℕ) → Turned x y l u → ⊥
     never u t =

@@ -3,7 +3,10 @@
 // Assumes nothing, and requires nothing of its rows.
 ghost use mathlib.Core.Path.{_≡_};
 ghost use mathlib.Core.List.{[], _++_};
+ghost use mathlib.Core.Bool.{true};
 ghost use Prim.Native.Nat.{_<_, suc};
+ghost use lib.Bits.{bitAnd};
+ghost use Rattle.model.specs.Words.{bit, word};
 ghost use Rattle.model.specs.Constraints.{rev};
 ghost use Rattle.model.specs.Support.{narrowed};
 ghost use Rattle.rows.specs.Rows.{alone};
@@ -30,26 +33,26 @@ fn backwards(y: [u64; 64], l: usize) -> [u64; 64]
     r
 }
 
-// The row r, and what y read backwards leaves of x at length l, where both rows allow that length.
+// The row r, and what y read backwards leaves of x at a length l that both rows allow.
 fn widen(r: [u64; 64], x: [u64; 64], y: [u64; 64], l: usize) -> [u64; 64]
-    requires { ⌜ l < 64 ⌝ }
+    requires { ⌜ (l < 64) × (bit (bitAnd (word x 0) (word y 0)) l ≡ true) ⌝ }
     ensures { λ s. ⌜ (Turning x y l r → Turning x y (suc l) s) ⌝ }
 {
-    if words::has(x[0] & y[0], l) {
-        return rows::join(rows::trim(rows::meet(x, backwards(y, l))), r);
-    }
-    r
+    rows::join(rows::trim(rows::meet(x, backwards(y, l))), r)
 }
 
 // What y read backwards leaves of x.
 fn half(x: [u64; 64], y: [u64; 64]) -> [u64; 64]
     ensures { λ r. ⌜ Turning x y 64 r ⌝ }
 {
+    let lengths = x[0] & y[0];
     let mut r = [0u64; 64];
     let mut l: usize = 0;
     while l < 64 {
-        let wider = widen(r, x, y, l);
-        r = wider;
+        if words::has(lengths, l) {
+            let wider = widen(r, x, y, l);
+            r = wider;
+        }
         l += 1;
     }
     r

@@ -19,7 +19,7 @@ use Rattle.rows.proofs.MeetLaws.{joined-or}
 use Rattle.laws.proofs.ListLaws.{and-true, true-and, same-true, same-refl}
 use Rattle.laws.proofs.WordLaws.{zero-bit}
 use Rattle.laws.proofs.RowLaws.{InRow}
-use Rattle.laws.proofs.Supports.{Supports, OfKinds, moved-support, none-support, next-kind, or-one}
+use Rattle.laws.proofs.Supports.{Supports, OfKinds, moved-support, none-support, next-kind, skip-kind, or-one}
 use Rattle.sub.specs.Substrings.{reachOf, Part, PartAt, Supported}
 use Rattle.sub.proofs.PartRows.{Met, part-narrowed}
 use Rattle.sub.proofs.ReachLaws.{reach-end, reach-test}
@@ -48,6 +48,15 @@ module _ (x y : List ℕ) (n : ℕ) where
     wholes = rw (joined-or ax bx) (next-kind (PartAt x y n) (λ v. textBit (v .whole)) 64 off ax bx (s .wholes) (t .wholes));
     parts = rw (joined-or ay bY) (next-kind (PartAt x y n) (λ v. textBit (v .part)) 64 off ay bY (s .parts) (t .parts));
     starts = rw (or-one an bn) (next-kind (PartAt x y n) (λ v i. 2 ^ (v .start)) 1 off (an ∷ []) (bn ∷ []) (s .starts) (t .starts));
+  }
+
+  -- at a start that n does not allow
+  pub starts-skip : (off : ℕ) → ((v : Part) → PartAt x y n off v → ⊥) → (bx bY : List ℕ) (bn : ℕ) → Supported (OfKinds (PartAt x y n) off) bx bY bn
+      → Supported (OfKinds (PartAt x y n) (suc off)) bx bY bn
+  starts-skip off never bx bY bn t = record {
+    wholes = skip-kind (PartAt x y n) (λ v. textBit (v .whole)) 64 off bx never (t .wholes);
+    parts = skip-kind (PartAt x y n) (λ v. textBit (v .part)) 64 off bY never (t .parts);
+    starts = skip-kind (PartAt x y n) (λ v i. 2 ^ (v .start)) 1 off (bn ∷ []) never (t .starts);
   }
 
 -- ---- a part by its symbols

@@ -2,11 +2,12 @@
 //
 // Assumes nothing, and requires nothing of its rows. A step is a union over the starts N; `off` is N - 1, the symbols of X before the part.
 ghost use mathlib.Core.Path.{_≡_};
+ghost use mathlib.Core.Bool.{true};
 ghost use mathlib.Core.List.{[], _∷_, _++_};
-ghost use Prim.Native.Nat.{_+_, _≤_, _<_};
+ghost use Prim.Native.Nat.{suc, _+_, _≤_, _<_};
 ghost use lib.Bits.{bitOr};
 ghost use lib.ListN.{replicate};
-ghost use Rattle.model.specs.Words.{word};
+ghost use Rattle.model.specs.Words.{bit, word};
 ghost use Rattle.model.specs.Constraints.{sub};
 ghost use Rattle.model.specs.Solutions.{textBit};
 ghost use Rattle.model.specs.Support.{narrowed};
@@ -76,15 +77,12 @@ fn parts(x: [u64; 64], y: [u64; 64], off: usize, top: usize) -> [u64; 64]
     rows::trim(rows::meet(y, shifted))
 }
 
-// What the choices use whose part starts after off symbols. A shorter part asks less of X, and a longer X leaves a part more room: so Y's least length
+// What the choices use whose part starts after off symbols, where N allows that start. A shorter part asks less of X, and a longer X leaves a part more room: so Y's least length
 // decides what stays of X, and X's greatest what stays of Y.
 fn part_at(x: [u64; 64], y: [u64; 64], n: u64, off: usize, least: usize, top: usize) -> Rows
-    requires { ⌜ (off < 63) × (least < 64) × (top < 64) ⌝ }
+    requires { ⌜ (off < 63) × (least < 64) × (top < 64) × (bit n (suc off) ≡ true) ⌝ }
     ensures { λ r. ⌜ (Longest x top → Lowest (word y 0) least → Supported (PartAt x y n off) (r .x) (r .y) (r .n)) ⌝ }
 {
-    if !words::has(n, off + 1) {
-        return nothing();
-    }
     let end = reach(off, least);
     if top < end {
         return nothing();
@@ -109,8 +107,10 @@ fn starts(x: [u64; 64], y: [u64; 64], n: u64, least: usize, top: usize) -> Rows
     let mut r = nothing();
     let mut off: usize = 0;
     while off < 63 {
-        let a = part_at(x, y, n, off, least, top);
-        r = union(a, r);
+        if words::has(n, off + 1) {
+            let a = part_at(x, y, n, off, least, top);
+            r = union(a, r);
+        }
         off += 1;
     }
     r

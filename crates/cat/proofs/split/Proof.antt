@@ -4,7 +4,7 @@ use borrow.Author.Tests.{not-true, not-false}
 use Rattle.model.specs.Words.{bit, word}
 use Rattle.rows.specs.Rows.{trimmed}
 use Rattle.rows.proofs.Fill.{array-words}
-use Rattle.cat.proofs.CatLaws.{none-supported, split-barred, split-empty, split-supported}
+use Rattle.cat.proofs.CatLaws.{none-supported, split-empty, split-supported}
 use borrow.Author.Needs.{needs}
 use Rattle.cat.proofs.split.Statement.{statement}
 use Rattle.cat.proofs.split.Tie as tie
@@ -14,24 +14,7 @@ use Rattle.cat.proofs.nothing.Reads as nothing-reads
 use Rattle.cat.proofs.whole.Reads as whole-reads
 use Rattle.rows.proofs.trim.Reads as trim-reads
 use Rattle.rows.proofs.window.Reads as window-reads
-use Rattle.words.proofs.has.Reads as has-reads
 use Rattle.words.proofs.single.Reads as single-reads
-
-array-read-has : tie.Need-array-read-has
-array-read-has c = search needs
-
-has-requires : tie.Need-has-requires
-has-requires c κs = search needs
-
-nothing-requires : tie.Need-nothing-requires
-nothing-requires c κs = search needs
-
-returns : tie.Need-returns
-returns c =
-    let s = c .before .before .before in
-    let n = c .nothing .ensures in
-    let barred : bit (word (s .args .t1) 0) (s .args .p) ≡ false = sym (c .before .before .has .ensures) ∙ not-true (c .before .before .has .result) (c .before .if1 .taken) in
-    none-supported _ (split-barred (s .args .t1) (s .args .t2) (s .args .t3) (s .args .p) barred) _ _ _ (n .0) (n .1) (n .2)
 
 array-read-lengths : tie.Need-array-read-lengths
 array-read-lengths c = search needs
@@ -51,21 +34,21 @@ whole-requires c κs = search needs
 trim-requires : tie.Need-trim-requires
 trim-requires c κs = search needs
 
-array-read-if2 : tie.Need-array-read-if2
-array-read-if2 c = search needs
+array-read-if1 : tie.Need-array-read-if1
+array-read-if1 c = search needs
 
-nothing-requires-2 : tie.Need-nothing-requires-2
-nothing-requires-2 c κs = search needs
+nothing-requires : tie.Need-nothing-requires
+nothing-requires c κs = search needs
 
-returns-2 : tie.Need-returns-2
-returns-2 c =
-    let s = c .before .before .before .before .before .before in
-    let x = s .args .t1 in
+returns : tie.Need-returns
+returns c =
+    let s = c .before .before .before .before in
+    let x = s .args .x in
     let z = s .args .t3 in
-    let n = c .nothing2 .ensures in
+    let n = c .nothing .ensures in
     let whole = c .before .before .before .whole in
-    let allowed : bit (word x 0) (s .args .p) ≡ true = sym (c .before .before .before .before .before .has .ensures) ∙ not-false (c .before .before .before .before .before .has .result) (c .before .before .before .before .if1 .left) in
-    let empty : word (trimmed (whole .result)) 0 ≡ 0 = rw (← c .before .before .trim .ensures) (c .before .if2 .taken) in
+    let allowed = s .pre .1 in
+    let empty : word (trimmed (whole .result)) 0 ≡ 0 = rw (← c .before .before .trim .ensures) (c .before .if1 .taken) in
     none-supported _ (split-empty x (s .args .t2) z (s .args .p) (search needs) (array-words z (λ i. search needs)) allowed (whole .result) (array-words (whole .result) (λ i. search needs)) (whole .ensures) empty)
     _ _ _ (n .0) (n .1) (n .2)
 
@@ -87,14 +70,14 @@ sub-window c = search needs
 window-requires-2 : tie.Need-window-requires-2
 window-requires-2 c κs = search needs
 
-returns-3 : tie.Need-returns-3
-returns-3 c =
-    let s = c .before .before .before .before .before .before .before .before in
-    let x = s .args .t1 in
+returns-2 : tie.Need-returns-2
+returns-2 c =
+    let s = c .before .before .before .before .before .before in
+    let x = s .args .x in
     let z = s .args .t3 in
     let whole = c .before .before .before .before .before .whole in
     let trim = c .before .before .before .before .trim in
-    let allowed : bit (word x 0) (s .args .p) ≡ true = sym (c .before .before .before .before .before .before .before .has .ensures) ∙ not-false (c .before .before .before .before .before .before .before .has .result) (c .before .before .before .before .before .before .if1 .left) in
+    let allowed = s .pre .1 in
     split-supported x (s .args .t2) z (s .args .p) (search needs) (array-words z (λ i. search needs)) allowed (whole .result) (array-words (whole .result) (λ i. search needs)) (whole .ensures)
     (trim .result) (c .before .window .result) (c .window2 .result) (trim .ensures) (array-words (trim .result) (λ i. search needs)) (search needs)
     (rw (c .before .before .single .ensures) at (c .before .window .ensures)) (c .window2 .ensures)
@@ -103,23 +86,19 @@ pub split-spec : {M : Type 1} → statement M
 split-spec =
     tie.close
     (tie.spec
-    array-read-has
-    has-requires
-    nothing-requires
-    returns
     array-read-lengths
     shr-lengths
     array-read-lengths-2
     shl-lengths
     whole-requires
     trim-requires
-    array-read-if2
-    nothing-requires-2
-    returns-2
+    array-read-if1
+    nothing-requires
+    returns
     single-requires
     window-requires
     array-read-window
     shr-window
     sub-window
     window-requires-2
-    returns-3)
+    returns-2)

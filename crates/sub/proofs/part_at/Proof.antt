@@ -8,7 +8,7 @@ use Rattle.model.specs.Words.{bit}
 use Rattle.rows.proofs.Fill.{array-words}
 use Rattle.sub.specs.Substrings.{reachOf}
 use Rattle.sub.proofs.ReachLaws.{reach-end}
-use Rattle.sub.proofs.StartLaws.{start-barred, start-past, start-empty, start-right}
+use Rattle.sub.proofs.StartLaws.{start-past, start-empty, start-right}
 use Rattle.sub.proofs.SubLaws.{none-supported}
 use borrow.Author.Needs.{needs}
 use Rattle.sub.proofs.part_at.Statement.{statement}
@@ -19,68 +19,51 @@ use Rattle.sub.proofs.nothing.Reads as nothing-reads
 use Rattle.sub.proofs.parts.Reads as parts-reads
 use Rattle.sub.proofs.reach.Reads as reach-reads
 use Rattle.sub.proofs.wholes.Reads as wholes-reads
-use Rattle.words.proofs.has.Reads as has-reads
 use Rattle.words.proofs.single.Reads as single-reads
 
-add-has : tie.Need-add-has
-add-has c = search needs
-
-has-requires : tie.Need-has-requires
-has-requires c κs = search needs
+reach-requires : tie.Need-reach-requires
+reach-requires c κs = search needs
 
 nothing-requires : tie.Need-nothing-requires
 nothing-requires c κs = search needs
 
 returns : tie.Need-returns
 returns c longest low =
-    let a = c .before .before .before .args in
-    let has = c .before .before .has in
-    let barred : bit (a .n) (suc (a .off)) ≡ false = rw add-one at (sym (has .ensures) ∙ not-true (has .result) (c .before .if1 .taken)) in
+    let s = c .before .before .before in
+    let a = s .args in
+    let past : a .top < reachOf (a .off) (a .least) = rw (c .before .before .reach .ensures) at (c .before .if1 .taken) in
     let z = c .nothing .ensures in
-    none-supported _ (start-barred (a .x) (a .y) (a .n) (a .off) barred) _ _ _ (z .0) (z .1) (z .2)
-
-reach-requires : tie.Need-reach-requires
-reach-requires c κs = search needs
-
-nothing-requires-2 : tie.Need-nothing-requires-2
-nothing-requires-2 c κs = search needs
-
-returns-2 : tie.Need-returns-2
-returns-2 c longest low =
-    let a = c .before .before .before .before .before .args in
-    let past : a .top < reachOf (a .off) (a .least) = rw (c .before .before .reach .ensures) at (c .before .if2 .taken) in
-    let z = c .nothing2 .ensures in
     none-supported _ (start-past (a .x) (a .y) (a .n) (a .off) (a .least) low (a .top) longest past) _ _ _ (z .0) (z .1) (z .2)
 
 wholes-requires : tie.Need-wholes-requires
 wholes-requires c κs =
-    let a = c .before .before .before .before .args in
+    let a = c .before .before .args in
     let e = c .before .reach .ensures in
     let h = reach-end (a .off) (a .least) in
     let top : a .top < 64 = search needs in
     let far : c .before .reach .result ≤ a .top = search needs in
     (omega arith, omega arith)
 
-array-read-if3 : tie.Need-array-read-if3
-array-read-if3 c = search needs
+array-read-if2 : tie.Need-array-read-if2
+array-read-if2 c = search needs
 
-nothing-requires-3 : tie.Need-nothing-requires-3
-nothing-requires-3 c κs = search needs
+nothing-requires-2 : tie.Need-nothing-requires-2
+nothing-requires-2 c κs = search needs
 
-returns-3 : tie.Need-returns-3
-returns-3 c longest low =
-    let a = c .before .before .before .before .before .before .before .args in
-    let has = c .before .before .before .before .before .before .has in
-    let allowed : bit (a .n) (suc (a .off)) ≡ true = rw add-one at (sym (has .ensures) ∙ not-false (has .result) (c .before .before .before .before .before .if1 .left)) in
+returns-2 : tie.Need-returns-2
+returns-2 c longest low =
+    let s = c .before .before .before .before .before in
+    let a = s .args in
+    let allowed = s .pre .3 in
     let wholes = c .before .before .wholes in
-    let z = c .nothing3 .ensures in
+    let z = c .nothing2 .ensures in
     none-supported _
-    (start-empty (a .x) (a .y) (a .n) (a .off) (a .least) low allowed (wholes .result) (rw (c .before .before .before .before .reach .ensures) at (wholes .ensures)) (c .before .if3 .taken))
+    (start-empty (a .x) (a .y) (a .n) (a .off) (a .least) low allowed (wholes .result) (rw (c .before .before .before .before .reach .ensures) at (wholes .ensures)) (c .before .if2 .taken))
     _ _ _ (z .0) (z .1) (z .2)
 
 parts-requires : tie.Need-parts-requires
 parts-requires c κs =
-    let a = c .before .before .before .before .before .before .args in
+    let a = c .before .before .before .before .args in
     let e = c .before .before .before .reach .ensures in
     let h = reach-end (a .off) (a .least) in
     let far : c .before .before .before .reach .result ≤ a .top = search needs in
@@ -92,11 +75,11 @@ add-single c = search needs
 single-requires : tie.Need-single-requires
 single-requires c κs = search needs
 
-returns-4 : tie.Need-returns-4
-returns-4 c longest low =
-    let a = c .before .before .before .before .before .before .before .before .args in
-    let has = c .before .before .before .before .before .before .before .has in
-    let allowed : bit (a .n) (suc (a .off)) ≡ true = rw add-one at (sym (has .ensures) ∙ not-false (has .result) (c .before .before .before .before .before .before .if1 .left)) in
+returns-3 : tie.Need-returns-3
+returns-3 c longest low =
+    let s = c .before .before .before .before .before .before in
+    let a = s .args in
+    let allowed = s .pre .3 in
     let reach = c .before .before .before .before .before .reach in
     let wholes = c .before .before .before .wholes in
     let near : reach .result ≤ a .top = search needs in
@@ -109,18 +92,14 @@ pub part-at-spec : {M : Type 1} → statement M
 part-at-spec =
     tie.close
     (tie.spec
-    add-has
-    has-requires
+    reach-requires
     nothing-requires
     returns
-    reach-requires
+    wholes-requires
+    array-read-if2
     nothing-requires-2
     returns-2
-    wholes-requires
-    array-read-if3
-    nothing-requires-3
-    returns-3
     parts-requires
     add-single
     single-requires
-    returns-4)
+    returns-3)
