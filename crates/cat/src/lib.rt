@@ -54,8 +54,8 @@ fn whole(x: [u64; 64], y: [u64; 64], z: [u64; 64], lengths: u64, p: usize) -> [u
     r
 }
 
-// What the choices with an X of p symbols use, a length that X allows. One row holds them for all lengths of Y, which count from p on; lengths and symbols of all three strings
-// come from it.
+// What the choices with an X of p symbols use, a length that X allows. One row holds them for all lengths of Y, which count from p on; lengths and symbols
+// of all three strings come from it.
 fn split(x: [u64; 64], y: [u64; 64], z: [u64; 64], p: usize) -> Rows
     requires { ⌜ (p < 64) × (bit (word x 0) p ≡ true) ⌝ }
     ensures { λ r. ⌜ Supported (Split x y z p) (r .x) (r .y) (r .z) ⌝ }

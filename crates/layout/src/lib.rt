@@ -1,5 +1,5 @@
-// How a problem file lays out its parts: the trailer of 24 bytes, and refusals 1 to 4. Nothing above this crate knows the trailer; where a part lies comes back as
-// numbers.
+// How a problem file lays out its parts: the trailer of 24 bytes, and refusals 1 to 4. Nothing above this crate knows the trailer; where a part lies comes
+// back as numbers.
 //
 // Assumes nothing. The trailer's fields keep their widths, so that in a `usize` no sum of distances wraps.
 ghost use mathlib.Core.Path.{_≡_};

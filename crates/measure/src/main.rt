@@ -200,7 +200,65 @@ fn regular_step(x: [u64; 64]) -> [u64; 64] {
     regular::narrow(&d, 64, x)
 }
 
-// One step: Sub looks for X in Z from N on, and Len measures Z.
+fn eq_step(x: [u64; 64], y: [u64; 64], z: [u64; 64], n: u64) -> Domains {
+    let r = eq::narrow(x, y);
+    let rx = r.x;
+    let ry = r.y;
+    Domains { x: rx, y: ry, z, n }
+}
+
+fn neq_step(x: [u64; 64], y: [u64; 64], z: [u64; 64], n: u64) -> Domains {
+    let r = neq::narrow(x, y);
+    let rx = r.x;
+    let ry = r.y;
+    Domains { x: rx, y: ry, z, n }
+}
+
+fn rev_step(x: [u64; 64], y: [u64; 64], z: [u64; 64], n: u64) -> Domains {
+    let r = rev::narrow(x, y);
+    let rx = r.x;
+    let ry = r.y;
+    Domains { x: rx, y: ry, z, n }
+}
+
+fn cat_step(x: [u64; 64], y: [u64; 64], z: [u64; 64], n: u64) -> Domains {
+    let r = cat::narrow(x, y, z);
+    let rx = r.x;
+    let ry = r.y;
+    let rz = r.z;
+    Domains {
+        x: rx,
+        y: ry,
+        z: rz,
+        n,
+    }
+}
+
+// Looks for X in Z from N on.
+fn sub_step(x: [u64; 64], y: [u64; 64], z: [u64; 64], n: u64) -> Domains {
+    let r = sub::narrow(z, x, n);
+    let rz = r.x;
+    let rx = r.y;
+    Domains {
+        x: rx,
+        y,
+        z: rz,
+        n: r.n,
+    }
+}
+
+// Measures Z.
+fn len_step(x: [u64; 64], y: [u64; 64], z: [u64; 64], n: u64) -> Domains {
+    let r = len::narrow(z, n);
+    let rz = r.x;
+    Domains {
+        x,
+        y,
+        z: rz,
+        n: r.n,
+    }
+}
+
 fn step(kind: u8, s: Domains) -> Domains {
     let x = s.x;
     let y = s.y;
@@ -208,65 +266,20 @@ fn step(kind: u8, s: Domains) -> Domains {
     let n = s.n;
     match kind {
         0 => {
-            let r = rows::trim(x);
-            Domains { x: r, y, z, n }
+            let t = rows::trim(x);
+            Domains { x: t, y, z, n }
         }
-        1 => {
-            let r = eq::narrow(x, y);
-            let rx = r.x;
-            let ry = r.y;
-            Domains { x: rx, y: ry, z, n }
-        }
-        2 => {
-            let r = neq::narrow(x, y);
-            let rx = r.x;
-            let ry = r.y;
-            Domains { x: rx, y: ry, z, n }
-        }
-        3 => {
-            let r = rev::narrow(x, y);
-            let rx = r.x;
-            let ry = r.y;
-            Domains { x: rx, y: ry, z, n }
-        }
-        4 => {
-            let r = cat::narrow(x, y, z);
-            let rx = r.x;
-            let ry = r.y;
-            let rz = r.z;
-            Domains {
-                x: rx,
-                y: ry,
-                z: rz,
-                n,
-            }
-        }
-        5 => {
-            let r = sub::narrow(z, x, n);
-            let rz = r.x;
-            let rx = r.y;
-            Domains {
-                x: rx,
-                y,
-                z: rz,
-                n: r.n,
-            }
-        }
-        6 => {
-            let r = len::narrow(z, n);
-            let rz = r.x;
-            Domains {
-                x,
-                y,
-                z: rz,
-                n: r.n,
-            }
-        }
+        1 => eq_step(x, y, z, n),
+        2 => neq_step(x, y, z, n),
+        3 => rev_step(x, y, z, n),
+        4 => cat_step(x, y, z, n),
+        5 => sub_step(x, y, z, n),
+        6 => len_step(x, y, z, n),
         7 => {
-            let r = regular_step(x);
-            Domains { x: r, y, z, n }
+            let t = regular_step(x);
+            Domains { x: t, y, z, n }
         }
-        _ => Domains { x, y, z, n },
+        _ => s,
     }
 }
 

@@ -77,8 +77,8 @@ fn parts(x: [u64; 64], y: [u64; 64], off: usize, top: usize) -> [u64; 64]
     rows::trim(rows::meet(y, shifted))
 }
 
-// What the choices use whose part starts after off symbols, where N allows that start. A shorter part asks less of X, and a longer X leaves a part more room: so Y's least length
-// decides what stays of X, and X's greatest what stays of Y.
+// What the choices use whose part starts after off symbols, where N allows that start. A shorter part asks less of X, and a longer X leaves a part more
+// room: so Y's least length decides what stays of X, and X's greatest what stays of Y.
 fn part_at(x: [u64; 64], y: [u64; 64], n: u64, off: usize, least: usize, top: usize) -> Rows
     requires { ⌜ (off < 63) × (least < 64) × (top < 64) × (bit n (suc off) ≡ true) ⌝ }
     ensures { λ r. ⌜ (Longest x top → Lowest (word y 0) least → Supported (PartAt x y n off) (r .x) (r .y) (r .n)) ⌝ }
