@@ -12,9 +12,17 @@ use Rattle.model.specs.Constraints.{Automaton, move}
 use Rattle.laws.proofs.WordLaws.{zero-bit, pow-self, pow-only, or-bit-left, or-bit-right, of-or-bit}
 use Rattle.automata.specs.Sets.{Gathered, Targets, Sources, Successors, Predecessors}
 
+-- a word that is 0 has no bit
+pub no-bit : (w i : ℕ) → w ≡ 0 → bit w i ≡ true → ⊥
+no-bit w i e b = false≢true (sym (zero-bit i) ∙ ap (λ (v : ℕ). bit v i) (sym e) ∙ b)
+
 module _ (E : ℕ → ℕ → Type 0) where
   pub gathered-none : Gathered 0 E 0
   gathered-none = record { sound = λ t e. absurd (false≢true (sym (zero-bit t) ∙ e)); complete = λ t i h x. absurd (omega arith) }
+
+  -- where nothing is given at all
+  pub gathered-empty : (n : ℕ) → ((i t : ℕ) → E i t → ⊥) → Gathered n E 0
+  gathered-empty n never = record { sound = λ t e. absurd (false≢true (sym (zero-bit t) ∙ e)); complete = λ t i h x. absurd (never i t x) }
 
   pub gathered-upto : (n m r : ℕ) → n ≡ m → Gathered n E r → Gathered m E r
   gathered-upto n m r e g = subst (λ (i : ℕ). Gathered i E r) e g

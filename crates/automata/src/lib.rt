@@ -85,6 +85,9 @@ pub fn successors(d: &[u8], k: usize, set: u32, symbols: u64) -> u32
     requires { ⌜ (k ≤ 64) × Whole k (now d) ⌝ }
     ensures { λ r. ⌜ Successors (machine k (now (d .entry))) (stateCount (now (d .entry))) k set symbols r ⌝ }
 {
+    if symbols == 0 {
+        return 0;
+    }
     let mut r: u32 = 0;
     let mut a: usize = 0;
     while a < k {
@@ -101,6 +104,9 @@ pub fn predecessors(d: &[u8], k: usize, set: u32, symbols: u64) -> u32
     requires { ⌜ (k ≤ 64) × Whole k (now d) ⌝ }
     ensures { λ r. ⌜ Predecessors (machine k (now (d .entry))) (stateCount (now (d .entry))) k set symbols r ⌝ }
 {
+    if symbols == 0 {
+        return 0;
+    }
     let mut r: u32 = 0;
     let mut a: usize = 0;
     while a < k {

@@ -87,6 +87,9 @@ fn symbols(d: &[u8], k: usize, allowed: u64, before: u32, after: u32) -> u64
     requires { ⌜ (k ≤ 64) × Whole k (now d) ⌝ }
     ensures { λ r. ⌜ Symbols (machine k (now (d .entry))) (stateCount (now (d .entry))) k allowed before after r ⌝ }
 {
+    if allowed == 0 {
+        return 0;
+    }
     let mut r: u64 = 0;
     let mut a: usize = 0;
     while a < k {

@@ -4,7 +4,7 @@ use Prim.Native.Nat.{_-_, _≤_}
 use native.Mathlib.Omega.{arith}
 use Rattle.automata.specs.Machine.{stateCount, machine}
 use Rattle.automata.specs.Sets.{Successors}
-use Rattle.automata.proofs.SetLaws.{gathered-none, gathered-upto, successors-skip, successors-add}
+use Rattle.automata.proofs.SetLaws.{gathered-empty, no-bit, gathered-none, gathered-upto, successors-skip, successors-add}
 use borrow.Author.Needs.{needs}
 use Rattle.automata.proofs.successors.Statement.{statement}
 use Rattle.automata.proofs.successors.Tie as tie
@@ -18,6 +18,9 @@ Inv-loop d k set symbols r₀ a₀ r a = (a ≤ k) × Successors (machine k d) (
 
 abbrev μ-loop : tie.MeasureT-loop
 μ-loop d k set symbols r₀ a₀ r a = k - a
+
+returns : tie.Need-returns Inv-loop μ-loop
+returns c = gathered-empty _ _ (λ i t x. no-bit _ i (c .if1 .taken) (x .0))
 
 loop-holds : tie.Need-loop-holds Inv-loop μ-loop
 loop-holds c = (search needs, gathered-none _)
@@ -42,11 +45,11 @@ loop-again c =
       ⊎-elim
           (λ w. successors-add _ _ _ _ _ _ _ _ (l .inv .1) (sym h ∙ w .0 .taken) (w .1 .ensures) (w .2))
           (λ w. successors-skip _ _ _ _ _ _ _ (l .inv .1) (sym h ∙ w .0 .left) (w .1))
-          (c .if1 .came),
+          (c .if2 .came),
     )
 
-returns : tie.Need-returns Inv-loop μ-loop
-returns c =
+returns-2 : tie.Need-returns-2 Inv-loop μ-loop
+returns-2 c =
     let l = c .before .loop in
     gathered-upto _ _ _ _ (omega arith) (l .inv .1)
 
@@ -56,10 +59,11 @@ successors-spec =
     (tie.spec
     Inv-loop
     μ-loop
+    returns
     loop-holds
     has-requires
     targets-requires
     add-a
     loop-less
     loop-again
-    returns)
+    returns-2)
