@@ -6,6 +6,11 @@ cd "$(dirname "$0")" || exit 1
 python3 tests/documents.py || exit 1
 python3 tests/edges.py || exit 1
 
+# One job more than there are processors, since a job also waits; at most 4, for memory.
+jobs=$(($(getconf _NPROCESSORS_ONLN) + 1))
+[ "$jobs" -le 4 ] || jobs=4
+export RT_JOBS="${RT_JOBS:-$jobs}"
+
 work=$(mktemp -d) || exit 1
 trap 'rm -rf "$work"' EXIT
 { rt ci 2>&1; echo $? > "$work/status"; } | tee "$work/log"
