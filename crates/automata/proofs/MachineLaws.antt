@@ -6,20 +6,18 @@ use Prim.Native.Nat.{ℕ, suc, _+_, _*_, _≤_, _<_}
 use native.Mathlib.Nat.{mul-le-mul-right, suc-mul}
 use native.Mathlib.Omega.{arith}
 use lib.Dec.{ltb}
-use lib.ListN.{length, getD, drop, length-drop}
-use lib.Seq.{getD-take, getD-drop, length-take-le}
+use lib.ListN.{length, getD, drop}
+use lib.Seq.{getD-take, getD-drop}
 use borrow.Author.Tests.{leb-true, ltb-true}
 use Rattle.model.specs.Constraints.{Automaton, move}
 use Rattle.model.specs.Layout.{little, part}
 use Rattle.model.specs.Reading.{automaton}
+use Rattle.laws.proofs.LayoutLaws.{part-length}
 use Rattle.laws.proofs.ListLaws.{given-some, and-true, of-all, getD-in}
 use Rattle.automata.specs.Machine.{stateCount, machine, Whole}
 use Rattle.laws.proofs.ReadingLaws.{pieces-word}
 
 -- ---- the n bytes behind the accepting states
-
-pub moves-size : (n : ℕ) (bs : List ℕ) → 5 + n ≤ length bs → length (part 5 n bs) ≡ n
-moves-size n bs h = length-take-le n (drop 5 bs) (omega (arith, length-drop 5 bs))
 
 pub moves-byte : (n : ℕ) (bs : List ℕ) (j : ℕ) → j < n → getD (part 5 n bs) j 0 ≡ getD bs (5 + j) 0
 moves-byte n bs j h = getD-take n (drop 5 bs) j 0 h ∙ getD-drop 5 bs j 0
@@ -36,7 +34,7 @@ automaton-whole k bs A e =
     let t₃ = and-true _ _ (t₄ .0) in
     let t₂ = and-true _ _ (t₃ .0) in
     let long : 5 + q * k ≤ length bs = leb-true (5 + q * k) (length bs) (t₃ .1) in
-    let size : length (part 5 (q * k) bs) ≡ q * k = moves-size (q * k) bs long in (
+    let size : length (part 5 (q * k) bs) ≡ q * k = part-length 5 (q * k) bs long in (
       record {
         some-state = leb-true 1 q (t₂ .0);
         most-states = leb-true q 32 (t₂ .1);

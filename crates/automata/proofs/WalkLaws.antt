@@ -15,10 +15,11 @@ use Rattle.model.specs.Words.{noneFrom}
 use Rattle.model.specs.Constraints.{Automaton, noAutomaton}
 use Rattle.model.specs.Layout.{little, part}
 use Rattle.model.specs.Reading.{automaton, automataIn}
+use Rattle.laws.proofs.LayoutLaws.{part-length}
 use Rattle.laws.proofs.ListLaws.{given-some, bind-some, of-all, in-all, getD-in, in-getD}
 use Rattle.automata.specs.Machine.{stateCount, machine, Whole}
 use Rattle.automata.specs.Walk.{present, Held, Starts}
-use Rattle.automata.proofs.MachineLaws.{moves-size, moves-byte, automaton-whole}
+use Rattle.automata.proofs.MachineLaws.{moves-byte, automaton-whole}
 
 -- ---- values that may be missing
 
@@ -65,7 +66,7 @@ module _ (bs : List ℕ) (q n : ℕ) (long : 5 + n ≤ length bs) where
   pub all-below : Below bs q n → all (λ p. ltb p q) (part 5 n bs) ≡ true
   all-below b = in-all (λ p. ltb p q) (part 5 n bs) (λ p m.
       let t = in-getD (part 5 n bs) 0 m in
-      let h : t .0 < n = subst (λ (l : ℕ). t .0 < l) (moves-size n bs long) (t .1) in
+      let h : t .0 < n = subst (λ (l : ℕ). t .0 < l) (part-length 5 n bs long) (t .1) in
       lt-ltb p q (subst (λ (x : ℕ). x < q) (sym (moves-byte n bs (t .0) h) ∙ t .2) (b .low (t .0) h)))
 
   pub one-above : (j : ℕ) → j < n → q ≤ getD bs (5 + j) 0 → all (λ p. ltb p q) (part 5 n bs) ≡ false
@@ -73,7 +74,7 @@ module _ (bs : List ℕ) (q n : ℕ) (long : 5 + n ≤ length bs) where
     where
       go : (t : Bool) → all (λ p. ltb p q) (part 5 n bs) ≡ t → t ≡ false
       go true e =
-          let m : j < length (part 5 n bs) = subst (λ (s : ℕ). j < s) (sym (moves-size n bs long)) h in
+          let m : j < length (part 5 n bs) = subst (λ (s : ℕ). j < s) (sym (part-length 5 n bs long)) h in
           let x = ltb-true (getD (part 5 n bs) j 0) q (of-all (λ p. ltb p q) e (getD-in (part 5 n bs) j 0 m)) in
           absurd (omega (arith, moves-byte n bs j h))
       go false e = refl

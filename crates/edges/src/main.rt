@@ -4,14 +4,8 @@
 // holds 7 before the call, and the sum of the words afterwards is printed: a refusal leaves them.
 use libc::STDIN_FILENO;
 use libc::STDOUT_FILENO;
-ghost use Prim.Native.Nat.{_+_, _≤_};
+ghost use Prim.Native.Nat.{_≤_};
 ghost use lib.ListN.{length};
-
-fn two(input: &[u8], at: usize) -> usize
-    requires { ⌜ at + 2 ≤ length (now input) ⌝ }
-{
-    input[at] as usize + 256 * (input[at + 1] as usize)
-}
 
 fn print_number(n: u64) {
     io::write_all(STDOUT_FILENO, b" ");
@@ -81,8 +75,8 @@ fn main() {
     let n = io::read_full(STDIN_FILENO, &mut input);
     let mut at: usize = 0;
     while at + 4 <= n {
-        let size = two(&input, at);
-        let lent = two(&input, at + 2);
+        let size = little::two(&input, at) as usize;
+        let lent = little::two(&input, at + 2) as usize;
         at += 4;
         if size > n - at {
             return;

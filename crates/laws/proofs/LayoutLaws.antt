@@ -48,12 +48,12 @@ three-parts l a b c n e =
     ∙ ap (λ (r : List ℕ). take a l ++ r) (sym (take-append-drop b (drop a l)) ∙ ap (λ (r : List ℕ). take b (drop a l) ++ r) (drop-drop b a l
     ∙ sym (take-append-drop c (drop (a + b) l)) ∙ ap (λ (r : List ℕ). take c (drop (a + b) l) ++ r) (drop-drop c (a + b) l ∙ ap (λ (m : ℕ). drop m l) e)))
 
-part-length : (i n : ℕ) (l : List ℕ) → i + n ≤ length l → length (part i n l) ≡ n
+pub part-length : (i n : ℕ) (l : List ℕ) → i + n ≤ length l → length (part i n l) ≡ n
 part-length i n l h = length-take-le n (drop i l) (omega (arith, length-drop i l))
 
 module _ (file : List ℕ) where
   -- where the trailer's distances lead
-  fitting-parts : (h : Trailer) → Fitting (length file) h
+  pub fitting-parts : (h : Trailer) → Fitting (length file) h
       → (back file (h .tableBack) (8 * tableWords h) ≡ part 0 (8 * tableWords h) file)
       × (back file (h .constraintsBack) (4 * h .constraints) ≡ part (8 * tableWords h) (4 * h .constraints) file)
       × (back file (h .automataBack) (h .automataBack) ≡ part (8 * tableWords h + 4 * h .constraints) (h .automataBack) file)

@@ -14,7 +14,7 @@ use Rattle.model.specs.Domains.{Variable, str, num}
 use Rattle.model.specs.Constraints.{Problem, Constraint, variables, width}
 use Rattle.model.specs.Solutions.{InRange, WellFormed}
 use Rattle.model.specs.Replies.{answered}
-use Rattle.model.specs.Layout.{Bytes, little, Parts, trailer, tableWords, layout}
+use Rattle.model.specs.Layout.{Bytes, little, part, Parts, trailer, tableWords, layout}
 use Rattle.model.specs.Reading.{pieces, string, number, names, Kind, kinds, kindOf, decode, repeats, Accepted, problemOf, reading}
 use Rattle.laws.proofs.ListLaws.{In, given-some, bind-some, collect-in, and-true, true-and}
 use Rattle.laws.proofs.CollectLaws.{any-false}
@@ -68,6 +68,16 @@ pieces-at (suc m) n bs (suc i) h =
 
 pub pieces-word : (m n : ℕ) (bs : List ℕ) (i j : ℕ) → i < m → j < n → getD (getD (pieces m n bs) i []) j 0 ≡ getD bs (i * n + j) 0
 pieces-word m n bs i j h l = ap (λ (p : List ℕ). getD p j 0) (pieces-at m n bs i h) ∙ getD-take n (drop (i * n) bs) j 0 l ∙ getD-drop (i * n) bs j 0
+
+-- the table that m pieces of eight bytes make: its length, and its word i
+pub table-length : (m : ℕ) (bs : List ℕ) → length (map little (pieces m 8 bs)) ≡ m
+table-length m bs = length-map (pieces m 8 bs) little ∙ pieces-length m 8 bs
+
+pub table-word : (m : ℕ) (bs : List ℕ) (i : ℕ) → i < m → word (map little (pieces m 8 bs)) i ≡ little (part (8 * i) 8 bs)
+unfolding little
+table-word m bs i h =
+    let e : i * 8 ≡ 8 * i = omega arith in
+    List·getD-map little (pieces m 8 bs) i [] ∙ ap little (pieces-at m 8 bs i h ∙ ap (λ (j : ℕ). part j 8 bs) e)
 
 words-pieces : (m : ℕ) (bs : List ℕ) → Bytes bs → Words (map little (pieces m 8 bs))
 unfolding little
@@ -174,7 +184,7 @@ problemOf-sound p bytes a e =
       well-formed = λ c m. let u = collect-in _ _ (t₇ .0) (t₇ .1) c m in decode-range P (p .automata) (u .0) c (u .1);
       distinct = λ c m. any-false (λ c. repeats (variables c)) (not-true _ (t₈ .0)) m;
       words = words-pieces (64 * p .strings + p .numbers) (p .tableBytes) bytes;
-      own-table = true-and (eq-eqb (length F) (width P) (length-map (pieces (64 * p .strings + p .numbers) 8 (p .tableBytes)) little ∙ pieces-length (64 * p .strings + p .numbers) 8 (p .tableBytes))) (t₆ .0);
+      own-table = true-and (eq-eqb (length F) (width P) (table-length (64 * p .strings + p .numbers) (p .tableBytes))) (t₆ .0);
     })
 
 pub layout-bytes : (file : List ℕ) → Bytes file → (p : Parts) → layout file ≡ answered p → Bytes (p .tableBytes)

@@ -10,7 +10,7 @@ use Rattle.model.specs.Lists.{same}
 use Rattle.model.specs.Replies.{Reply, answered, require}
 use Rattle.model.specs.Layout as model
 use Rattle.model.specs.Layout.{back, trailer, tail, inBounds, tableWords, abutting, layout}
-use Rattle.laws.proofs.LayoutLaws.{Fitting, abutting-fits, layout-parts}
+use Rattle.laws.proofs.LayoutLaws.{Fitting, abutting-fits, fitting-parts, layout-parts}
 use Rattle.layout.specs.declared.Trailer.{Trailer}
 use Rattle.layout.specs.declared.Layout.the-variants.{Refused, Laid}
 use Rattle.layout.specs.Heads.{headOf, placed}
@@ -68,14 +68,11 @@ module _ (file : List ℕ) where
           pub laid-answered : replyOf file (Laid (placed h (length file - 24))) ≡ layout file
           unfolding replyOf partsOf placed headOf
           laid-answered =
-              let e₁ : h .constraints ≡ 4 * h .c + h .automata = fitting .constraints-back in
               let e₂ : h .table ≡ 8 * (64 * h .s + h .t) + 4 * h .c + h .automata = fitting .table-back in
               let e₃ : length file ≡ h .table + 24 = fitting .file-size in
-              let a : length file - 24 - h .table ≡ 0 = omega arith in
-              let b : length file - 24 - h .constraints ≡ 8 * (64 * h .s + h .t) = omega arith in
-              let c : length file - 24 - h .automata ≡ 8 * (64 * h .s + h .t) + 4 * h .c = omega arith in
+              let parts = fitting-parts file (headOf tail h) fitting in
               let d : length file - 24 - (8 * (64 * h .s + h .t) + 4 * h .c) ≡ h .automata = omega arith in
-              rw d (rw (a, b, c) at answers)
+              rw d (rw (parts .0, parts .1, parts .2) at answers)
 
           pub laid-fits : PartsFit file (placed h (length file - 24))
           unfolding replyOf partsOf placed headOf

@@ -88,21 +88,17 @@ no-kind s t d (suc (suc (suc (suc (suc (suc (suc (suc k)))))))) x y z n₁ n₂ 
 
 -- ---- "naming one string twice"
 
+one-test : (b : Bool) → cond (b || false) true false ≡ b
+one-test true = refl
+one-test false = refl
+
 pub two-repeat : (x y : ℕ) → repeats (str x ∷ str y ∷ []) ≡ eqb x y
 unfolding repeats any sameVariable
-two-repeat x y = go (eqb x y)
-  where
-    go : (b : Bool) → cond (b || false) true false ≡ b
-    go true = refl
-    go false = refl
+two-repeat x y = one-test (eqb x y)
 
 pub two-and-number-repeat : (x y n : ℕ) → repeats (str x ∷ str y ∷ num n ∷ []) ≡ eqb x y
 unfolding repeats any sameVariable
-two-and-number-repeat x y n = go (eqb x y)
-  where
-    go : (b : Bool) → cond (b || false) true false ≡ b
-    go true = refl
-    go false = refl
+two-and-number-repeat x y n = one-test (eqb x y)
 
 pub three-repeat : (x y z : ℕ) → repeats (str x ∷ str y ∷ str z ∷ []) ≡ ((eqb x y || eqb x z) || eqb y z)
 unfolding repeats any sameVariable

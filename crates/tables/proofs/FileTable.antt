@@ -1,29 +1,19 @@
 -- The table that a file's bytes stand for, word by word, and a loop that unpacks it. Assumes nothing.
 use mathlib.Core.Path.{_≡_, sym, ap, ap₂, subst, _∙_}
-use mathlib.Core.List.{List, [], _++_, map, append-nil}
+use mathlib.Core.List.{List, _++_, map, append-nil}
 use Prim.Native.Nat.{ℕ, suc, _+_, _*_, _<_}
 use native.Mathlib.Numerals.{add-one}
 use native.Mathlib.Omega.{arith}
-use lib.ListN.{length, set, drop, length-map, List·getD-map}
+use lib.ListN.{length, set, drop}
 use lib.Seq.{take-all, drop-length, paste, paste-suc}
 use Rattle.model.specs.Words.{word}
 use Rattle.model.specs.Layout.{little, part}
 use Rattle.model.specs.Reading.{pieces}
-use Rattle.laws.proofs.ReadingLaws.{pieces-at, pieces-length}
-
--- word i of the table that m pieces of eight bytes make
-pub table-word : (m : ℕ) (bs : List ℕ) (i : ℕ) → i < m → word (map little (pieces m 8 bs)) i ≡ little (part (8 * i) 8 bs)
-unfolding little
-table-word m bs i h =
-    let e : i * 8 ≡ 8 * i = omega arith in
-    List·getD-map little (pieces m 8 bs) i [] ∙ ap little (pieces-at m 8 bs i h ∙ ap (λ (j : ℕ). part j 8 bs) e)
+use Rattle.laws.proofs.ReadingLaws.{table-length, table-word}
 
 -- the words of the rows, which come first
 pub file-words : (s t : ℕ) (bs : List ℕ) (i : ℕ) → i < 64 * s → little (part (8 * i) 8 bs) ≡ word (map little (pieces (64 * s + t) 8 bs)) i
 file-words s t bs i h = sym (table-word (64 * s + t) bs i (omega arith))
-
-pub table-length : (m : ℕ) (bs : List ℕ) → length (map little (pieces m 8 bs)) ≡ m
-table-length m bs = length-map (pieces m 8 bs) little ∙ pieces-length m 8 bs
 
 -- a turn of the loop that unpacks, and its end
 pub unpack-step : (t₀ bs : List ℕ) (i : ℕ) (t : List ℕ) → i < length t₀ → t ≡ paste t₀ 0 (map little (pieces (length t₀) 8 bs)) i

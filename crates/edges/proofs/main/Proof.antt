@@ -5,8 +5,8 @@ use Rattle.edges.proofs.main.Tie as tie
 use Rattle.edges.proofs.main.Reads as reads
 use Rattle.edges.proofs.main.Lts as lts
 use Rattle.edges.proofs.report.Reads as report-reads
-use Rattle.edges.proofs.two.Reads as two-reads
 use Rattle.io.proofs.read_full.Reads as read-full-reads
+use Rattle.little.proofs.two.Reads as two-reads
 
 abbrev Inv-loop : tie.InvT-loop
 Inv-loop input n at₀ at = at ≤ n
@@ -32,6 +32,9 @@ slice-aggregate-two c = search needs
 two-requires : tie.Need-two-requires Inv-loop μ-loop
 two-requires c κs = search needs
 
+cast-size : tie.Need-cast-size Inv-loop μ-loop
+cast-size c = search needs
+
 slice-aggregate-two-2 : tie.Need-slice-aggregate-two-2 Inv-loop μ-loop
 slice-aggregate-two-2 c = search needs
 
@@ -40,6 +43,9 @@ add-two c = search needs
 
 two-requires-2 : tie.Need-two-requires-2 Inv-loop μ-loop
 two-requires-2 c κs = search needs
+
+cast-lent : tie.Need-cast-lent Inv-loop μ-loop
+cast-lent c = search needs
 
 add-at : tie.Need-add-at Inv-loop μ-loop
 add-at c = search needs
@@ -89,9 +95,11 @@ main-spec =
     add-loop
     slice-aggregate-two
     two-requires
+    cast-size
     slice-aggregate-two-2
     add-two
     two-requires-2
+    cast-lent
     add-at
     sub-if1
     returns
