@@ -2,11 +2,13 @@
 -- Assumes nothing.
 use mathlib.Core.Path.{_≡_, refl, sym, ap, subst, _∙_}
 use mathlib.Core.List.{List, map}
+use mathlib.Core.Option.{some}
 use Prim.Native.Nat.{ℕ, _+_, _*_}
 use lib.ListN.{length}
+use Rattle.model.specs.Lists.{collect}
 use Rattle.model.specs.Replies.{Reply, refused, answered, andThen}
 use Rattle.model.specs.Layout.{Parts, little, layout}
-use Rattle.model.specs.Reading.{pieces, Accepted, problemOf, reading}
+use Rattle.model.specs.Reading.{automataIn, decode, pieces, Accepted, problemOf, reading}
 use Rattle.laws.proofs.ReplyLaws.{require-answered, obtain-answered, andThen-answered, answered-inj, refused≢answered}
 use Rattle.laws.proofs.CollectLaws.{collect-length}
 use Rattle.laws.proofs.ReadingLaws.{pieces-length}
@@ -21,9 +23,11 @@ pub record Holds (p : Parts) (a : Accepted) : Type 0 where
   pub numbers : a .problem .numbers ≡ p .numbers
   pub automata : length (a .problem .automata) ≡ p .automata
   pub constraints : length (a .problem .constraints) ≡ p .constraints
+  pub machines : automataIn (p .symbols) (p .automata) (p .automataBytes) ≡ some (a .problem .automata)
+  pub decoded : collect (decode (p .strings) (p .numbers) (p .automata)) (pieces (p .constraints) 4 (p .constraintBytes)) ≡ some (a .problem .constraints)
   pub table : a .table ≡ map little (pieces (64 * p .strings + p .numbers) 8 (p .tableBytes))
 
-problemOf-holds : (p : Parts) (a : Accepted) → problemOf p ≡ answered a → Holds p a
+pub problemOf-holds : (p : Parts) (a : Accepted) → problemOf p ≡ answered a → Holds p a
 unfolding problemOf
 problemOf-holds p a e =
     let t₅ = obtain-answered _ 5 _ a e in
@@ -36,6 +40,8 @@ problemOf-holds p a e =
       numbers = refl;
       automata = automata-count (p .symbols) (p .automata) (p .automataBytes) (t₅ .0) (t₅ .1);
       constraints = collect-length _ (pieces (p .constraints) 4 (p .constraintBytes)) (t₇ .0) (t₇ .1) ∙ pieces-length (p .constraints) 4 (p .constraintBytes);
+      machines = t₅ .1;
+      decoded = t₇ .1;
       table = refl;
     })
 
@@ -56,6 +62,7 @@ reading-refused file n e = go (layout file) e
 -- the reading of a file with these parts
 pub record Held (file : List ℕ) (p : Parts) : Type 0 where
   pub content : Accepted
+  pub parted : problemOf p ≡ answered content
   pub read : reading file ≡ answered content
   pub holds : Holds p content
 
@@ -67,6 +74,7 @@ reading-held file p e =
     let q : t .0 ≡ p = answered-inj (u .2) in
     record {
       content = u .0;
+      parted = ap problemOf (sym q) ∙ u .1;
       read = ap (λ l. andThen l problemOf) (t .1) ∙ u .1;
       holds = subst (λ p. Holds p (u .0)) q (problemOf-holds (t .0) (u .0) (u .1));
     }

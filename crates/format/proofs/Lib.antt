@@ -3,3 +3,4 @@ pub mod RefusalLaws
 pub mod PartLaws
 pub mod OutcomeLaws
 pub mod AcceptLaws
+pub mod ContentLaws

@@ -151,3 +151,13 @@ unfolding bits upto
 bits-rest w b bs e =
     let there : bit w b ≡ true = of-bits w (subst (λ (l : List ℕ). In b l) (sym e) (List·Memᴰ·head refl)) .0 in
     select-same (bit (w - 2 ^ b)) (λ c. bit w c && not (eqb b c)) (from 0 64) (λ c m. bit-sub w b c there) ∙ without-first (bit w) b bs (from 0 64) (from-increasing 0 64) e
+
+-- the lowest bit, which has none below it, comes first
+pub bits-lowest : (w v : ℕ) → v < 64 → bit w v ≡ true → ((i : ℕ) → i < v → bit w i ≡ false) → bits w ≡ v ∷ bits (w - 2 ^ v)
+bits-lowest w v h here below =
+    let t = first (bits w) (bits-increasing w) (in-bits w v here h) (λ b m. of-bits w m .0) in
+    t .1 ∙ ap (λ (bs : List ℕ). v ∷ bs) (sym (bits-rest w v (t .0) (t .1)))
+  where
+    first : (xs : List ℕ) → Increasing xs → In v xs → ((b : ℕ) → In b xs → bit w b ≡ true) → (bs : List ℕ) × (xs ≡ v ∷ bs)
+    first (x ∷ xs) inc (List·Memᴰ·head e) f = (xs, ap (λ (y : ℕ). y ∷ xs) (sym e))
+    first (x ∷ xs) inc (List·Memᴰ·tail m) f = absurd (false≢true (sym (below x (inc .0 v m)) ∙ f x (List·Memᴰ·head refl)))

@@ -9,7 +9,7 @@ use Prim.Native.Nat.{ℕ, zero, suc, _+_, _-_, _*_, _^_, _≤_, _<_}
 use native.Mathlib.Omega.{arith}
 use lib.Dec.{leb}
 use lib.ListN.{length, getD, set}
-use borrow.Author.Tests.{le-leb, lt-leb}
+use borrow.Author.Tests.{leb-true, leb-false, le-leb, lt-leb}
 use Rattle.model.specs.Lists.{any, find, from, upto}
 use Rattle.model.specs.Words.{bit, bits, several, word, Words}
 use Rattle.model.specs.Domains.{Variable, str, num, row, stringsOf, valuesOf}
@@ -107,6 +107,20 @@ module _ (P : Problem) (wf : WellFormed P) (S : List ℕ) (bd : Words S) (ln : l
     where
       at : (k : ℕ) → k < 0 + width P → several (word S k) ≡ true → ((j : ℕ) → 0 ≤ j → j < k → several (word S j) ≡ false) → At S k
       at k l q f = record { two = several-true (word S k) q; inside = omega arith; before = λ j h. several-false (word S j) (f j (omega arith) h) }
+
+  -- there is only one first word
+  pub branch-at : (k : ℕ) → At S k → branch P S ≡ some k
+  branch-at k a = ⊎-elim
+      (λ r. let i = a .inside in let z = r .1 k (omega arith) in let t = a .two in absurd (omega arith))
+      (λ r. let l = up-to (r .0) k (r .2) a in let m = up-to k (r .0) a (r .2) in let e : r .0 ≡ k = omega arith in r .1 ∙ ap some e)
+      branch-cases
+    where
+      up-to : (m n : ℕ) → At S m → At S n → m ≤ n
+      up-to m n a b = go (leb m n) refl
+        where
+          go : (t : Bool) → leb m n ≡ t → m ≤ n
+          go true e = leb-true m n e
+          go false e = let z = a .before n (leb-false m n e) in let t = b .two in absurd (omega arith)
 
   -- ---- the children of a node
 

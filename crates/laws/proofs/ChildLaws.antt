@@ -14,7 +14,7 @@ use Rattle.model.specs.Constraints.{Problem}
 use Rattle.model.specs.Rounds.{settled}
 use Rattle.laws.proofs.WordLaws.{Within, pow-bit, pow-only, of-bits}
 use Rattle.laws.proofs.BitsLaws.{Single, bits-increasing, few, pow-single}
-use Rattle.laws.proofs.TableLaws.{Below, below-trans, below-antisym, below-words, size-eq, word-size-le}
+use Rattle.laws.proofs.TableLaws.{Below, below-trans, below-antisym, below-of-eq, below-words, size-eq, word-size-le}
 use Rattle.laws.proofs.RoundLaws.{settled-below, settled-above, settled-stable, settled-mono}
 
 module _ (S : List ℕ) (k b : ℕ) (h : k < length S) where
@@ -103,3 +103,12 @@ child-later S N k b h bf p j l = go (eqb j k) refl
         let z = word-size-le (word N j) (word S j) a in
         let o = bf j (omega arith) in
         omega arith
+
+-- the same for the settled tables: a table cut to one bit at word k, with nothing left to branch on before k
+pub cut-single : (P : Problem) (T : List ℕ) (k b : ℕ) → Words T → k < length T → bit (word T k) b ≡ true → ((j : ℕ) → j < k → Single (word (settled P T) j))
+    → (j : ℕ) → j < suc k → Single (word (settled P (set T k (2 ^ b))) j)
+cut-single P T k b bd h m bf =
+    let S : List ℕ = settled P T in
+    let hS : k < length S = subst (λ (n : ℕ). k < n) (sym (settled-below P T .same-length)) h in
+    let e : settled P (set S k (2 ^ b)) ≡ settled P (set T k (2 ^ b)) = settle-restricted P T k b bd h m in
+    child-later S (settled P (set T k (2 ^ b))) k b hS bf (below-trans (below-of-eq (sym e)) (settled-below P (set S k (2 ^ b))))

@@ -73,11 +73,11 @@ search-claim a so budget room A z e =
     }
 
 -- a file that is refused: every operation on a lent table refuses with its number
-settle-refused : (n : ℕ) (T : List ℕ) → settle (refused n) T ≡ refused n
+pub settle-refused : (n : ℕ) (T : List ℕ) → settle (refused n) T ≡ refused n
 unfolding settle onTable andThen
 settle-refused n T = refl
 
-step-refused : (n j : ℕ) (T : List ℕ) → step (refused n) j T ≡ refused n
+pub step-refused : (n j : ℕ) (T : List ℕ) → step (refused n) j T ≡ refused n
 unfolding step onTable andThen
 step-refused n j T = refl
 

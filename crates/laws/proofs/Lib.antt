@@ -1,6 +1,8 @@
 -- The laws about the definitions, each module after those it cites: lists and words; a row, a table and its domains; one narrowing step; rounds; solutions;
--- the search tree; the file; demand 3. `Supports`, `NeqLaws` and `LoopLaws` are for the code above: a step's parts, Neq's step, the search's loop.
+-- the search tree; the file; demand 3. `PartLaws`, `Supports`, `NeqLaws`, `LoopLaws` and `StackLaws` are for the code above: parts of a lent slice, a
+-- step's parts, Neq's step, the search's loop and its invariant.
 pub mod ListLaws
+pub mod PartLaws
 pub mod CollectLaws
 pub mod WordLaws
 pub mod BitsLaws
@@ -23,6 +25,7 @@ pub mod SearchLaws
 pub mod LoopLaws
 pub mod ReplyLaws
 pub mod CallLaws
+pub mod StackLaws
 pub mod LayoutLaws
 pub mod ReadingLaws
 pub mod Demand

@@ -5,19 +5,19 @@ use mathlib.Core.Path.{_≡_, refl, sym, ap, ap₂, subst, _∙_}
 use mathlib.Core.Logic.{_≢_}
 use mathlib.Core.Bool.{Bool, true, false}
 use mathlib.Core.List.{List, [], _∷_, _++_, map, flatMap, append-assoc, append-nil, List·Memᴰ·tail}
-use Prim.Native.Nat.{ℕ, zero, suc, _^_, _≤_, _<_}
+use Prim.Native.Nat.{ℕ, zero, suc, _+_, _-_, _^_, _≤_, _<_}
 use native.Mathlib.Omega.{arith}
-use lib.Dec.{eqb}
-use lib.ListN.{length, set, take, drop, replicate, getD-replicate, length-take}
-use lib.Seq.{getD-set-same, getD-set-other, take-set-le, take-append-le, take-take}
-use borrow.Author.Tests.{eqb-true, eqb-false}
+use lib.Dec.{eqb, ltb}
+use lib.ListN.{length, set, take, drop, replicate, length-append, length-take, length-drop, getD-replicate, List·getD-append}
+use lib.Seq.{length-take-le, getD-append-add, getD-set-same, getD-set-other, take-set-le, getD-take, getD-drop, take-append-le, take-take, ext-getD}
+use borrow.Author.Tests.{ltb-true, ltb-false, eqb-true, eqb-false}
 use Rattle.model.specs.Lists.{select, upto, from}
 use Rattle.model.specs.Words.{bit, bits, word, Words}
 use Rattle.model.specs.Constraints.{Problem}
 use Rattle.model.specs.Rounds.{settled}
 use Rattle.model.specs.Tree.{nodes, children, solved, searching, found, none, spent}
 use Rattle.laws.proofs.ListLaws.{In, flatMap-append, flatMap-map, flatMap-cong}
-use Rattle.laws.proofs.WordLaws.{of-bits}
+use Rattle.laws.proofs.WordLaws.{Within, of-bits}
 use Rattle.laws.proofs.TableLaws.{Below, below-words}
 use Rattle.laws.proofs.RoundLaws.{settled-below}
 use Rattle.laws.proofs.ChildLaws.{settle-restricted, child-below}
@@ -38,11 +38,47 @@ module _ (F : List ℕ) where
   waiting zero dec alt = []
   waiting (suc k) dec alt = map (λ b. set (base dec k) k (2 ^ b)) (bits (word alt k)) ++ waiting k dec alt
 
-  base-set : (dec : List ℕ) (i a k : ℕ) → k ≤ i → base (set dec i a) k ≡ base dec k
+  -- its words, and its place below the file's table
+  module _ (dec : List ℕ) (k : ℕ) (h : k ≤ length dec) where
+    pub base-low : (i : ℕ) → i < k → word (base dec k) i ≡ word dec i
+    unfolding base
+    base-low i l =
+        let e : i < length (take k dec) = omega (arith, length-take-le k dec h) in
+        List·getD-append (take k dec) (drop k F) 0 i e ∙ getD-take k dec i 0 l
+
+    pub base-high : (i : ℕ) → k ≤ i → word (base dec k) i ≡ word F i
+    unfolding base
+    base-high i l =
+        let n : ℕ = length (take k dec) in
+        let e : n ≡ k = length-take-le k dec h in
+        let d : n + (i - k) ≡ i = omega arith in
+        let f : k + (i - k) ≡ i = omega arith in
+        ap (λ (j : ℕ). word (take k dec ++ drop k F) j) (sym d) ∙ getD-append-add (take k dec) (drop k F) (i - k) 0 ∙ getD-drop k F (i - k) 0 ∙ ap (word F) f
+
+    base-length : length dec ≡ length F → length (base dec k) ≡ length F
+    unfolding base
+    base-length e = length-append (take k dec) (drop k F) ∙ omega (arith, length-take-le k dec h, length-drop k F)
+
+    pub base-below : Below dec F → Below (base dec k) F
+    base-below p = record { same-length = base-length (p .same-length); within = λ i. go i (ltb i k) refl }
+      where
+        go : (i : ℕ) (t : Bool) → ltb i k ≡ t → Within (word (base dec k) i) (word F i)
+        go i true e b q = p .within i b (ap (λ (w : ℕ). bit w b) (sym (base-low i (ltb-true i k e))) ∙ q)
+        go i false e b q = ap (λ (w : ℕ). bit w b) (sym (base-high i (ltb-false i k e))) ∙ q
+
+    -- decisions that have the file's words from k on are their own base
+    pub base-own : length dec ≡ length F → ((i : ℕ) → k ≤ i → word dec i ≡ word F i) → base dec k ≡ dec
+    base-own e f = ext-getD 0 (base dec k) dec (base-length e ∙ sym e) (λ i l. go i (ltb i k) refl)
+      where
+        go : (i : ℕ) (t : Bool) → ltb i k ≡ t → word (base dec k) i ≡ word dec i
+        go i true q = base-low i (ltb-true i k q)
+        go i false q = base-high i (ltb-false i k q) ∙ sym (f i (ltb-false i k q))
+
+  pub base-set : (dec : List ℕ) (i a k : ℕ) → k ≤ i → base (set dec i a) k ≡ base dec k
   unfolding base
   base-set dec i a k h = ap (λ l. l ++ drop k F) (take-set-le k dec i a h)
 
-  base-base : (dec : List ℕ) (m k : ℕ) → k ≤ m → m ≤ length dec → base (base dec m) k ≡ base dec k
+  pub base-base : (dec : List ℕ) (m k : ℕ) → k ≤ m → m ≤ length dec → base (base dec m) k ≡ base dec k
   unfolding base
   base-base dec m k h l =
       let e : k ≤ length (take m dec) = omega (arith, length-take m dec) in

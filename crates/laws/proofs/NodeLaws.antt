@@ -1,7 +1,7 @@
 -- Laws of a table on which no step strikes: its rows have no idle bits, and what follows for a node that is solved. Assumes nothing.
 use mathlib.Core.Path.{_≡_, refl, sym, ap, subst, _∙_}
 use mathlib.Core.Logic.{⊎-elim}
-use mathlib.Core.Bool.{Bool, true, false}
+use mathlib.Core.Bool.{Bool, true, false, false≢true}
 use mathlib.Core.List.{List, [], map, List·Memᴰ·head, List·Memᴰ·append-cases, Memᴰ·append-left, Memᴰ·append-right, Memᴰ·map, Memᴰ·of-map}
 use Prim.Native.Nat.{ℕ, _+_, _*_, _≤_, _<_}
 use native.Mathlib.Omega.{arith}
@@ -88,6 +88,13 @@ module _ (P : Problem) (S : List ℕ) where
 
   pub solved-alive : solved P S ≡ true → alive P S ≡ true
   solved-alive e = count-alive (λ v h. let k = solved-count e v h in omega arith)
+
+  pub dead-unsolved : alive P S ≡ false → solved P S ≡ false
+  dead-unsolved l = go (solved P S) refl
+    where
+      go : (t : Bool) → solved P S ≡ t → solved P S ≡ false
+      go true e = absurd (false≢true (sym l ∙ solved-alive e))
+      go false e = e
 
 -- ---- a table on which no step strikes
 

@@ -1,17 +1,18 @@
 -- Laws of reading: what a file that is accepted holds. Assumes nothing.
 use mathlib.Core.Path.{_≡_, refl, sym, ap, subst, _∙_}
-use mathlib.Core.Bool.{true, false}
+use mathlib.Core.Bool.{Bool, true, false}
 use mathlib.Core.List.{List, [], _∷_, map, List·Memᴰ·head, List·Memᴰ·tail, List·Memᴰ·not-nil}
 use mathlib.Core.Option.{some, Option·none-ne-some, Option·some-injective}
 use Prim.Native.Nat.{ℕ, zero, suc, _+_, _-_, _*_, _^_, _<_}
 use native.Mathlib.Omega.{arith}
 use native.Mathlib.Nat.{pow-suc, suc-mul, zero-mul}
+use lib.Dec.{ltb}
 use lib.ListN.{length, getD, take, drop, getElem?, length-map, List·getD-map}
 use lib.Seq.{getD-drop, drop-drop, getD-take}
 use borrow.Author.Tests.{ltb-true, not-true, eq-eqb}
 use Rattle.model.specs.Words.{bit, word, Words}
 use Rattle.model.specs.Domains.{Variable, str, num}
-use Rattle.model.specs.Constraints.{Problem, Constraint, variables, width}
+use Rattle.model.specs.Constraints.{Problem, Constraint, always, eq, neq, rev, cat, sub, len, regular, variables, width}
 use Rattle.model.specs.Solutions.{InRange, WellFormed}
 use Rattle.model.specs.Replies.{answered}
 use Rattle.model.specs.Layout.{Bytes, little, part, Parts, trailer, tableWords, layout}
@@ -79,6 +80,16 @@ table-word m bs i h =
     let e : i * 8 ≡ 8 * i = omega arith in
     List·getD-map little (pieces m 8 bs) i [] ∙ ap little (pieces-at m 8 bs i h ∙ ap (λ (j : ℕ). part j 8 bs) e)
 
+-- the bytes from word j on make the words from j on
+pub table-drop : (j m : ℕ) (bs : List ℕ) → map little (pieces m 8 (drop (8 * j) bs)) ≡ drop j (map little (pieces (j + m) 8 bs))
+unfolding pieces little
+table-drop zero m bs = let e : 0 + m ≡ m = omega arith in ap (λ (n : ℕ). map little (pieces n 8 bs)) (sym e)
+table-drop (suc j) m bs =
+    let e : 8 * suc j ≡ 8 + 8 * j = omega arith in
+    let d : suc j + m ≡ suc (j + m) = omega arith in
+    ap (λ (b : List ℕ). map little (pieces m 8 b)) (ap (λ (i : ℕ). drop i bs) e ∙ sym (drop-drop (8 * j) 8 bs)) ∙ table-drop j m (drop 8 bs)
+    ∙ ap (λ (n : ℕ). drop (suc j) (map little (pieces n 8 bs))) (sym d)
+
 words-pieces : (m : ℕ) (bs : List ℕ) → Bytes bs → Words (map little (pieces m 8 bs))
 unfolding little
 words-pieces m bs h i b q =
@@ -96,6 +107,22 @@ getElem-in (y ∷ l) (suc n) x e = List·Memᴰ·tail (getElem-in l n x e)
 record Named (P : Problem) (vs : List Variable) : Type 0 where
   in-range : (v : Variable) → In v vs → InRange P v
 
+-- the automaton that a constraint names is one of the first d
+unfoldable pub machineBelow : ℕ → Constraint → Bool
+machineBelow d (always x) = true
+machineBelow d (eq x y) = true
+machineBelow d (neq x y) = true
+machineBelow d (rev x y) = true
+machineBelow d (cat x y z) = true
+machineBelow d (sub x y n) = true
+machineBelow d (len x n) = true
+machineBelow d (regular x i) = ltb i d
+
+-- everything that a constraint names is there
+record Made (P : Problem) (d : ℕ) (c : Constraint) : Type 0 where
+  named : Named P (variables c)
+  machine-there : machineBelow d c ≡ true
+
 module _ (P : Problem) (d : ℕ) where
   named-nil : Named P []
   named-nil = record { in-range = λ v m. elim m [ ] }
@@ -106,10 +133,10 @@ module _ (P : Problem) (d : ℕ) where
   named-num : {n : ℕ} {vs : List Variable} → n < P .numbers → Named P vs → Named P (num n ∷ vs)
   named-num h r = record { in-range = λ v m. elim m [ List·Memᴰ·head e ↦ subst (InRange P) (sym e) h | List·Memᴰ·tail k ↦ r .in-range v k ] }
 
-  -- where its arguments name something, the constraint of a kind names variables of the problem
+  -- where its arguments name something, so does the constraint of a kind
   Sorted : Kind → Type 0
   Sorted κ = (x y z : ℕ) → names (P .strings) (P .numbers) d (κ .first) x ≡ true → names (P .strings) (P .numbers) d (κ .second) y ≡ true
-      → names (P .strings) (P .numbers) d (κ .third) z ≡ true → Named P (variables (κ .make x y z))
+      → names (P .strings) (P .numbers) d (κ .third) z ≡ true → Made P d (κ .make x y z)
 
   a-string : (x : ℕ) → names (P .strings) (P .numbers) d string x ≡ true → x < P .strings
   unfolding names
@@ -120,7 +147,7 @@ module _ (P : Problem) (d : ℕ) where
   a-number x e = ltb-true x (P .numbers) e
 
   kinds-sorted : (κ : Kind) → In κ kinds → Sorted κ
-  unfolding kinds Sorted variables
+  unfolding kinds Sorted variables machineBelow names
   kinds-sorted κ m = go m
     where
       two : (x y : ℕ) → x < P .strings → y < P .strings → Named P (str x ∷ str y ∷ [])
@@ -130,17 +157,17 @@ module _ (P : Problem) (d : ℕ) where
       at λs e h = subst Sorted (sym e) h
 
       go : In κ kinds → Sorted κ
-      go (List·Memᴰ·head e) = at _ e (λ x y z p q r. two x y (a-string x p) (a-string y q))
-      go (List·Memᴰ·tail (List·Memᴰ·head e)) = at _ e (λ x y z p q r. two x y (a-string x p) (a-string y q))
-      go (List·Memᴰ·tail (List·Memᴰ·tail (List·Memᴰ·head e))) = at _ e (λ x y z p q r. two x y (a-string x p) (a-string y q))
+      go (List·Memᴰ·head e) = at _ e (λ x y z p q r. record { named = two x y (a-string x p) (a-string y q); machine-there = refl })
+      go (List·Memᴰ·tail (List·Memᴰ·head e)) = at _ e (λ x y z p q r. record { named = two x y (a-string x p) (a-string y q); machine-there = refl })
+      go (List·Memᴰ·tail (List·Memᴰ·tail (List·Memᴰ·head e))) = at _ e (λ x y z p q r. record { named = two x y (a-string x p) (a-string y q); machine-there = refl })
       go (List·Memᴰ·tail (List·Memᴰ·tail (List·Memᴰ·tail (List·Memᴰ·head e)))) =
-          at _ e (λ x y z p q r. named-str (a-string x p) (named-str (a-string y q) (named-str (a-string z r) named-nil)))
+          at _ e (λ x y z p q r. record { named = named-str (a-string x p) (named-str (a-string y q) (named-str (a-string z r) named-nil)); machine-there = refl })
       go (List·Memᴰ·tail (List·Memᴰ·tail (List·Memᴰ·tail (List·Memᴰ·tail (List·Memᴰ·head e))))) =
-          at _ e (λ x y z p q r. named-str (a-string x p) (named-str (a-string y q) (named-num (a-number z r) named-nil)))
+          at _ e (λ x y z p q r. record { named = named-str (a-string x p) (named-str (a-string y q) (named-num (a-number z r) named-nil)); machine-there = refl })
       go (List·Memᴰ·tail (List·Memᴰ·tail (List·Memᴰ·tail (List·Memᴰ·tail (List·Memᴰ·tail (List·Memᴰ·head e)))))) =
-          at _ e (λ x y z p q r. named-str (a-string x p) (named-num (a-number y q) named-nil))
+          at _ e (λ x y z p q r. record { named = named-str (a-string x p) (named-num (a-number y q) named-nil); machine-there = refl })
       go (List·Memᴰ·tail (List·Memᴰ·tail (List·Memᴰ·tail (List·Memᴰ·tail (List·Memᴰ·tail (List·Memᴰ·tail (List·Memᴰ·head e))))))) =
-          at _ e (λ x y z p q r. named-str (a-string x p) named-nil)
+          at _ e (λ x y z p q r. record { named = named-str (a-string x p) named-nil; machine-there = q })
       go (List·Memᴰ·tail (List·Memᴰ·tail (List·Memᴰ·tail (List·Memᴰ·tail (List·Memᴰ·tail (List·Memᴰ·tail (List·Memᴰ·tail m))))))) = absurd (List·Memᴰ·not-nil m)
 
   kindOf-in : (n : ℕ) (κ : Kind) → kindOf n ≡ some κ → In κ kinds
@@ -148,15 +175,21 @@ module _ (P : Problem) (d : ℕ) where
   kindOf-in zero κ e = absurd (Option·none-ne-some κ e)
   kindOf-in (suc n) κ e = getElem-in kinds n κ e
 
-  pub decode-range : (r : List ℕ) (c : Constraint) → decode (P .strings) (P .numbers) d r ≡ some c → (v : Variable) → In v (variables c) → InRange P v
+  decode-made : (r : List ℕ) (c : Constraint) → decode (P .strings) (P .numbers) d r ≡ some c → Made P d c
   unfolding decode Sorted
-  decode-range r c e =
+  decode-made r c e =
       let u = bind-some (kindOf (getD r 0 0)) _ c e in
       let g = given-some _ _ c (u .2) in
       let t = and-true _ _ (g .0) in
       let w = and-true _ _ (t .0) in
-      subst (λ (k : Constraint). (v : Variable) → In v (variables k) → InRange P v) (sym (g .1))
-      (kinds-sorted (u .0) (kindOf-in (getD r 0 0) (u .0) (u .1)) (getD r 1 0) (getD r 2 0) (getD r 3 0) (w .0) (w .1) (t .1) .in-range)
+      subst (Made P d) (sym (g .1)) (kinds-sorted (u .0) (kindOf-in (getD r 0 0) (u .0) (u .1)) (getD r 1 0) (getD r 2 0) (getD r 3 0) (w .0) (w .1) (t .1))
+
+  pub decode-range : (r : List ℕ) (c : Constraint) → decode (P .strings) (P .numbers) d r ≡ some c → (v : Variable) → In v (variables c) → InRange P v
+  decode-range r c e = decode-made r c e .named .in-range
+
+  pub decode-machine : (r : List ℕ) (x i : ℕ) → decode (P .strings) (P .numbers) d r ≡ some (regular x i) → i < d
+  unfolding machineBelow
+  decode-machine r x i e = ltb-true i d (decode-made r (regular x i) e .machine-there)
 
 -- ---- what an accepted file holds
 

@@ -1,7 +1,7 @@
 -- Laws of rounds: the settled table is the greatest one below the start on which no step strikes, whatever the order of the steps. Assumes nothing.
 use mathlib.Core.Path.{_≡_, refl, sym, ap, subst, _∙_}
 use mathlib.Core.Logic.{_⊎_, inl, inr, ⊎-elim}
-use mathlib.Core.List.{List, [], _∷_, List·Memᴰ·head, List·Memᴰ·tail}
+use mathlib.Core.List.{List, [], _∷_, _++_, List·Memᴰ·head, List·Memᴰ·tail}
 use Prim.Native.Nat.{ℕ, zero, suc, _+_, _≤_, _<_}
 use native.Mathlib.Omega.{arith}
 use Rattle.model.specs.Words.{Words, size}
@@ -26,6 +26,11 @@ module _ (P : Problem) where
   run-below [] T = below-refl T
   run-below (c ∷ cs) T = below-trans (run-below cs (narrowed P c T)) (narrowed-below P c T)
 
+  pub run-append : (cs ds : List Constraint) (T : List ℕ) → run P (cs ++ ds) T ≡ run P ds (run P cs T)
+  unfolding run
+  run-append [] ds T = refl
+  run-append (c ∷ cs) ds T = run-append cs ds (narrowed P c T)
+
   -- a fixed table below the start stays below
   pub run-above : (cs : List Constraint) (W T : List ℕ) → Fixed P cs W → Below W T → Below W (run P cs T)
   unfolding run
@@ -46,7 +51,7 @@ module _ (P : Problem) where
 
   -- ---- settling
   -- the round struck nothing and was the last, or it struck something and others follow
-  after-cases : (n : ℕ) (U : List ℕ) (r : Settled)
+  pub after-cases : (n : ℕ) (U : List ℕ) (r : Settled)
       → ((n ≡ 0) × (after n U r .rounds ≡ 1) × (after n U r .table ≡ U)) ⊎ ((0 < n) × (after n U r .rounds ≡ suc (r .rounds)) × (after n U r .table ≡ r .table))
   unfolding after
   after-cases zero U r = inl (refl, refl, refl)

@@ -2,16 +2,16 @@
 use mathlib.Core.Path.{_≡_, refl, sym, ap, subst, _∙_}
 use mathlib.Core.Bool.{Bool, true, false, not, cond, false≢true}
 use mathlib.Core.List.{List, [], _∷_, List·Memᴰ·head, List·Memᴰ·tail}
-use Prim.Native.Nat.{ℕ, zero, suc, _+_, _^_, _≤_, _<_}
+use Prim.Native.Nat.{ℕ, zero, suc, _+_, _*_, _^_, _≤_, _<_}
 use native.Mathlib.Omega.{arith}
 use lib.Dec.{ltb}
 use lib.ListN.{length, List·getD-eq-default}
 use lib.Seq.{ext-getD}
 use borrow.Author.Tests.{ltb-true, ltb-false}
-use Rattle.model.specs.Lists.{select, upto}
+use Rattle.model.specs.Lists.{select, from, upto}
 use Rattle.model.specs.Words.{bit, bits, word, Words, size}
 use Rattle.model.specs.Support.{struck}
-use Rattle.laws.proofs.ListLaws.{In, in-upto}
+use Rattle.laws.proofs.ListLaws.{In, in-upto, from-length}
 use Rattle.laws.proofs.WordLaws.{Within, zero-bit, bit-high, within-antisym}
 
 -- T has no bit that U lacks
@@ -93,6 +93,25 @@ size-le [] [] p = omega arith
 size-le [] (v ∷ U) p = omega arith
 size-le (w ∷ T) [] p = let e = p .same-length in absurd (omega arith)
 size-le (w ∷ T) (v ∷ U) p = let a = word-size-le w v (p .within 0) in let r = size-le T U (tail-below p) in omega arith
+
+pub select-length : {A : Type 0} (p : A → Bool) (xs : List A) → length (select p xs) ≤ length xs
+unfolding select
+select-length p [] = omega arith
+select-length {A} p (x ∷ xs) = go (p x) (select-length p xs)
+  where
+    go : (b : Bool) → length (select p xs) ≤ length xs → length (cond b (x ∷ select p xs) (select p xs)) ≤ suc (length xs)
+    go true l = omega arith
+    go false l = omega arith
+
+-- 64 bits a word
+pub bits-most : (w : ℕ) → length (bits w) ≤ 64
+unfolding bits upto
+bits-most w = omega (arith, select-length (bit w) (from 0 64), from-length 0 64)
+
+pub size-most : (T : List ℕ) → size T ≤ 64 * length T
+unfolding size
+size-most [] = omega arith
+size-most (w ∷ T) = omega (arith, bits-most w, size-most T)
 
 -- a table below another of no more bits is the other
 pub size-eq : (T U : List ℕ) → Below T U → Words U → size U ≤ size T → Below U T

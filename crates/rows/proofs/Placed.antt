@@ -87,7 +87,7 @@ module _ (P : Problem) (c : Constraint) where
           | zero ↦ λ k. rest .other-rows x (λ y m q. d .0 y m (sym q)) (omega arith) ∙ row-stored T x r fx lr
           | suc z ↦ λ k. rest .there z (omega arith)
         ];
-        other-rows = λ y o g. rest .other-rows y (λ z m. o z (List·Memᴰ·tail m)) (omega arith) ∙ row-stored-other T x r fx lr y (o x (List·Memᴰ·head refl)) g;
+        other-rows = λ y o g. rest .other-rows y (λ z m. o z (List·Memᴰ·tail m)) (omega arith) ∙ row-stored-other T x r fx lr y (o x (List·Memᴰ·head refl));
         untouched = λ i t. rest .untouched i t ∙ stored-untouched T x r fx lr P c (nx .0) (nx .1) i t;
       }
 

@@ -1,3 +1,4 @@
--- The laws of the words' ends, and of words with no bit at a place or above.
+-- The laws of the words' ends, of words with no bit at a place or above, and of words with several bits.
 pub mod EndLaws
 pub mod NoneFromLaws
+pub mod SeveralLaws

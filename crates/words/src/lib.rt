@@ -4,7 +4,7 @@
 ghost use mathlib.Core.Path.{_≡_};
 ghost use Prim.Native.Nat.{_<_, _≤_, _+_, _-_, _^_};
 ghost use lib.ListN.{length};
-ghost use Rattle.model.specs.Words.{bit, bits, noneFrom};
+ghost use Rattle.model.specs.Words.{bit, bits, several, noneFrom};
 ghost use Rattle.words.specs.Ends.{Highest, Lowest};
 
 // The word of the lengths 0 to i, for each i from 0 to 63.
@@ -128,4 +128,14 @@ pub fn lowest(w: u64) -> usize
     ensures { λ r. ⌜ Lowest w r ⌝ }
 {
     u64::trailing_zeros(w) as usize
+}
+
+// Whether w has more than one bit.
+pub fn several(w: u64) -> bool
+    ensures { λ r. ⌜ r ≡ several w ⌝ }
+{
+    if w == 0 {
+        return false;
+    }
+    w != single(lowest(w))
 }

@@ -1,12 +1,12 @@
-use mathlib.Core.Path.{_≡_, refl}
+use mathlib.Core.Path.{sym, _∙_}
 use mathlib.Core.List.{map}
 use Prim.Native.Nat.{_-_, _≤_}
 use native.Mathlib.Omega.{arith}
-use lib.ListN.{length, length-set}
-use lib.Seq.{paste, paste-zero}
+use lib.ListN.{length}
 use Rattle.model.specs.Layout.{little}
 use Rattle.model.specs.Reading.{pieces}
-use Rattle.tables.proofs.FileTable.{unpack-step, unpack-end}
+use Rattle.laws.proofs.PartLaws.{Copied, copied-start, copied-step, copied-all}
+use Rattle.laws.proofs.ReadingLaws.{table-length, table-word}
 use borrow.Author.Needs.{needs}
 use Rattle.tables.proofs.unpack.Statement.{statement}
 use Rattle.tables.proofs.unpack.Tie as tie
@@ -15,15 +15,13 @@ use Rattle.tables.proofs.unpack.Lts as lts
 use Rattle.little.proofs.eight.Reads as eight-reads
 
 abbrev Inv-loop : tie.InvT-loop
-Inv-loop bytes table₀ n i₀ table i = (i ≤ n) × (length table ≡ length table₀) × (table ≡ paste table₀ 0 (map little (pieces (length table₀) 8 bytes)) i)
+Inv-loop bytes table₀ n i₀ table i = (i ≤ n) × Copied (map little (pieces (length table₀) 8 bytes)) table₀ i table
 
 abbrev μ-loop : tie.MeasureT-loop
 μ-loop bytes table₀ n i₀ table i = n - i
 
 loop-holds : tie.Need-loop-holds Inv-loop μ-loop
-loop-holds c =
-    let a = c .before .before .args in
-    (search needs, refl, paste-zero (a .table .now) 0 (map little (pieces (length (a .table .now)) 8 (a .bytes .now))))
+loop-holds c = (search needs, copied-start _ _)
 
 mul-eight : tie.Need-mul-eight Inv-loop μ-loop
 mul-eight c = search needs
@@ -45,18 +43,20 @@ loop-less c = search needs
 
 loop-again : tie.Need-loop-again Inv-loop μ-loop
 loop-again c =
-    let inv = c .before .before .loop .inv in
     let a = c .before .before .before .before .before .args in
-    (search needs, simp length-set (inv .1), rw (c .eight .ensures) (unpack-step (a .table .now) (a .bytes .now) _ _ (c .before .loop-test .taken) (inv .2)))
+    let n = length (a .table .now) in
+    let l = table-length n (a .bytes .now) in
+    let e = table-word n (a .bytes .now) (c .before .before .loop .i) (search needs) in
+    (search needs, copied-step _ _ _ _ _ (omega arith) (search needs) (c .eight .ensures ∙ sym e) (c .before .before .loop .inv .1))
 
 same-length : tie.Need-same-length Inv-loop μ-loop
-same-length c = c .before .loop .inv .1
+same-length c = c .before .loop .inv .1 .size
 
 returns : tie.Need-returns Inv-loop μ-loop
 returns c =
     let a = c .before .before .before .before .args in
-    let e : c .before .loop .i ≡ length (a .table .now) = omega arith in
-    unpack-end (a .table .now) (a .bytes .now) _ (rw e at (c .before .loop .inv .2))
+    let l = table-length (length (a .table .now)) (a .bytes .now) in
+    copied-all _ _ _ _ (omega arith) l (c .before .loop .inv .1)
 
 pub unpack-spec : {M : Type 1} → statement M
 unpack-spec =
