@@ -1,0 +1,166 @@
+-- The step of each kind on a table: the rows and numbers that it names are taken out, narrowed alone and put back one after the other. Each law takes what the
+-- functions called ensure, as it stands, and gives the step: the narrowed table by the relation's law, and the count by what each row and number lost.
+-- Assumes nothing.
+use mathlib.Core.Path.{_≡_, sym, ap, ap₂, _∙_}
+use mathlib.Core.Logic.{_≢_}
+use mathlib.Core.List.{List, [], _∷_, _++_}
+use Prim.Native.Nat.{ℕ, _+_, _*_, _≤_, _<_}
+use native.Mathlib.Omega.{arith}
+use lib.ListN.{length, set}
+use Rattle.model.specs.Words.{word}
+use Rattle.model.specs.Domains.{row}
+use Rattle.model.specs.Constraints.{Problem, Constraint, width, always, cat, sub, len}
+use Rattle.model.specs.Support.{narrowed, struck}
+use Rattle.laws.proofs.WordLaws.{Within}
+use Rattle.laws.proofs.TableLaws.{Below}
+use Rattle.laws.proofs.DomainLaws.{row-length}
+use Rattle.rows.specs.Rows.{alone, trimmed, stored}
+use Rattle.rows.proofs.StoreLaws.{stored-length, row-stored-other, stored-after}
+use Rattle.rows.proofs.PlacedKinds.{trim-placed}
+use Rattle.cat.proofs.CatLaws.{cat-placed}
+use Rattle.sub.proofs.SubLaws.{sub-placed}
+use Rattle.len.proofs.LenLaws.{len-placed}
+use Rattle.steps.specs.Step.{Step}
+use Rattle.steps.proofs.CountLaws.{Fewer, then-fewer, row-fewer, number-fewer, below-front, below-back, below-narrowed, step-of}
+
+-- ---- what a relation leaves of each part is below that part: what `put` and `put_number` require
+
+module _ (Q : Problem) (d : Constraint) (a b p q : List ℕ) (e : p ++ q ≡ narrowed Q d (a ++ b)) (la : length a ≡ 64) (lp : length p ≡ 64) where
+  pub front-left : Below p a
+  front-left = below-front p q a b (omega arith) (below-narrowed Q d (a ++ b) (p ++ q) e)
+
+  pub back-left : Below q b
+  back-left = below-back p q a b (omega arith) (below-narrowed Q d (a ++ b) (p ++ q) e)
+
+-- the same of three parts
+module _ (Q : Problem) (d : Constraint) (a b g p q o : List ℕ) (e : p ++ (q ++ o) ≡ narrowed Q d (a ++ (b ++ g)))
+    (la : length a ≡ 64) (lb : length b ≡ 64) (lp : length p ≡ 64) (lq : length q ≡ 64) where
+  pub second-left : Below q b
+  second-left = below-front q o b g (omega arith) (back-left Q d a (b ++ g) p (q ++ o) e la lp)
+
+  pub third-left : Below o g
+  third-left = below-back q o b g (omega arith) (back-left Q d a (b ++ g) p (q ++ o) e la lp)
+
+-- ---- put back
+
+-- U is T with another row for string x, and n bits fewer
+pub record Put (T : List ℕ) (x : ℕ) (U : List ℕ) (n : ℕ) : Type 0 where
+  pub fewer : Fewer T U n
+  pub same-length : length U ≡ length T
+  pub other-row : (y : ℕ) → y ≢ x → row U y ≡ row T y
+  pub after : (i : ℕ) → 64 * x + 64 ≤ i → word U i ≡ word T i
+
+-- what `put` and `put_number` ensure
+pub put-row : (T : List ℕ) (x : ℕ) (old new U : List ℕ) (n : ℕ) → 64 * x + 64 ≤ length T → length new ≡ 64 → row T x ≡ old → Below new old
+    → (U ≡ stored T x new) × (n ≡ struck old new) → Put T x U n
+put-row T x old new U n f l e p h = rw (h .0, h .1) (record {
+  fewer = row-fewer T x old new e p;
+  same-length = stored-length T x new f l;
+  other-row = row-stored-other T x new f l;
+  after = stored-after T x new f l;
+})
+
+pub put-number : (T : List ℕ) (i old new : ℕ) (U : List ℕ) (n : ℕ) → i < length T → word T i ≡ old → Within new old
+    → (U ≡ set T i new) × (n ≡ struck (old ∷ []) (new ∷ [])) → Fewer T U n
+put-number T i old new U n f e p h = rw (h .0, h .1) (number-fewer T i old new f e p)
+
+-- ---- one string
+
+taken-length : (P : Problem) (T : List ℕ) (x : ℕ) (a : List ℕ) → length T ≡ width P → x < P .strings → a ≡ row T x → length a ≡ 64
+taken-length P T x a ln hx e = ap length e ∙ row-length T x (omega arith)
+
+pub one-row : (P : Problem) (c : Constraint) (T U : List ℕ) (x n : ℕ) (a p : List ℕ) → length T ≡ width P → x < P .strings → a ≡ row T x → Below p a
+    → (U ≡ stored T x p) × (n ≡ struck a p) → stored T x p ≡ narrowed P c T → Step P c T U n
+one-row P c T U x n a p ln hx ea below h placed =
+    let lp : length p ≡ 64 = below .same-length ∙ taken-length P T x a ln hx ea in
+    step-of P c T U n (h .0 ∙ placed) (put-row T x a p U n (omega arith) lp (sym ea) below h .fewer)
+
+pub trimmed-left : (a p : List ℕ) → p ≡ trimmed a → Below p a
+unfolding trimmed
+trimmed-left a p e = below-narrowed (alone 1 0 []) (always 0) a p e
+
+pub trim-row : (P : Problem) (T U : List ℕ) (x n : ℕ) (a p : List ℕ) → length T ≡ width P → x < P .strings → a ≡ row T x → p ≡ trimmed a
+    → (U ≡ stored T x p) × (n ≡ struck a p) → Step P (always x) T U n
+trim-row P T U x n a p ln hx ea e h =
+    one-row P (always x) T U x n a p ln hx ea (trimmed-left a p e) h (ap (stored T x) (e ∙ ap trimmed ea) ∙ trim-placed P x hx T ln)
+
+-- ---- Eq, Neq and Rev: two strings
+
+pub two-rows : (P : Problem) (c d : Constraint) (T T₁ U : List ℕ) (x y n m : ℕ) (a b p q : List ℕ) → length T ≡ width P → x < P .strings → y < P .strings
+    → y ≢ x → a ≡ row T x → b ≡ row T y → p ++ q ≡ narrowed (alone 2 0 []) d (a ++ b)
+    → (T₁ ≡ stored T x p) × (n ≡ struck a p) → (U ≡ stored T₁ y q) × (m ≡ struck b q)
+    → length p ≡ 64
+    → ((rx ry : List ℕ) → length rx ≡ 64 → length ry ≡ 64 → rx ++ ry ≡ narrowed (alone 2 0 []) d (row T x ++ row T y)
+    → stored (stored T x rx) y ry ≡ narrowed P c T)
+    → Step P c T U (n + m)
+two-rows P c d T T₁ U x y n m a b p q ln hx hy ne ea eb e h k lp placed =
+    let Q : Problem = alone 2 0 [] in
+    let la = taken-length P T x a ln hx ea in
+    let lb = taken-length P T y b ln hy eb in
+    let below = back-left Q d a b p q e la lp in
+    let lq : length q ≡ 64 = below .same-length ∙ lb in
+    let s = put-row T x a p T₁ n (omega arith) lp (sym ea) (front-left Q d a b p q e la lp) h in
+    let l₁ = s .same-length in
+    let t = put-row T₁ y b q U m (omega arith) lq (s .other-row y ne ∙ sym eb) below k in
+    step-of P c T U (n + m) (k .0 ∙ ap (λ (W : List ℕ). stored W y q) (h .0) ∙ placed p q lp lq (cc (e, ea, eb))) (then-fewer (s .fewer) (t .fewer))
+
+-- ---- Cat
+
+pub cat-rows : (P : Problem) (T T₁ T₂ U : List ℕ) (x y z n m k : ℕ) (a b g p q o : List ℕ) → length T ≡ width P → x < P .strings → y < P .strings
+    → z < P .strings → y ≢ x → z ≢ x → z ≢ y → a ≡ row T x → b ≡ row T y → g ≡ row T z → p ++ (q ++ o) ≡ narrowed (alone 3 0 []) (cat 0 1 2) (a ++ (b ++ g))
+    → (T₁ ≡ stored T x p) × (n ≡ struck a p) → (T₂ ≡ stored T₁ y q) × (m ≡ struck b q) → (U ≡ stored T₂ z o) × (k ≡ struck g o)
+    → length p ≡ 64 → length q ≡ 64 → Step P (cat x y z) T U (n + m + k)
+cat-rows P T T₁ T₂ U x y z n m k a b g p q o ln hx hy hz yx zx zy ea eb eg e h i j lp lq =
+    let Q : Problem = alone 3 0 [] in
+    let d : Constraint = cat 0 1 2 in
+    let la = taken-length P T x a ln hx ea in
+    let lb = taken-length P T y b ln hy eb in
+    let lg = taken-length P T z g ln hz eg in
+    let below = third-left Q d a b g p q o e la lb lp lq in
+    let lo : length o ≡ 64 = below .same-length ∙ lg in
+    let s = put-row T x a p T₁ n (omega arith) lp (sym ea) (front-left Q d a (b ++ g) p (q ++ o) e la lp) h in
+    let l₁ = s .same-length in
+    let t = put-row T₁ y b q T₂ m (omega arith) lq (s .other-row y yx ∙ sym eb) (second-left Q d a b g p q o e la lb lp lq) i in
+    let l₂ = t .same-length in
+    let r : row T₂ z ≡ g = t .other-row z zy ∙ s .other-row z zx ∙ sym eg in
+    let u = put-row T₂ z g o U k (omega arith) lo r below j in
+    let made : U ≡ stored (stored (stored T x p) y q) z o = j .0 ∙ ap (λ (W : List ℕ). stored W z o) (i .0 ∙ ap (λ (W : List ℕ). stored W y q) (h .0)) in
+    step-of P (cat x y z) T U (n + m + k) (made ∙ cat-placed P x y z yx zx zy hx hy hz T ln p q o lp lq lo (cc (e, ea, eb, eg)))
+    (then-fewer (then-fewer (s .fewer) (t .fewer)) (u .fewer))
+
+-- ---- Sub and Len: number v has word i of the table, which is w and becomes w′
+
+pub sub-rows : (P : Problem) (T T₁ T₂ U : List ℕ) (x y i v n m k : ℕ) (a b p q : List ℕ) (w w′ : ℕ) → length T ≡ width P → x < P .strings → y < P .strings
+    → y ≢ x → v < P .numbers → i ≡ 64 * P .strings + v → a ≡ row T x → b ≡ row T y → w ≡ word T i
+    → p ++ (q ++ (w′ ∷ [])) ≡ narrowed (alone 2 1 []) (sub 0 1 0) (a ++ (b ++ (w ∷ [])))
+    → (T₁ ≡ stored T x p) × (n ≡ struck a p) → (T₂ ≡ stored T₁ y q) × (m ≡ struck b q) → (U ≡ set T₂ i w′) × (k ≡ struck (w ∷ []) (w′ ∷ []))
+    → length p ≡ 64 → length q ≡ 64 → Step P (sub x y v) T U (n + m + k)
+sub-rows P T T₁ T₂ U x y i v n m k a b p q w w′ ln hx hy yx hv ei ea eb ew e f g h lp lq =
+    let Q : Problem = alone 2 1 [] in
+    let d : Constraint = sub 0 1 0 in
+    let la = taken-length P T x a ln hx ea in
+    let lb = taken-length P T y b ln hy eb in
+    let s = put-row T x a p T₁ n (omega arith) lp (sym ea) (front-left Q d a (b ++ (w ∷ [])) p (q ++ (w′ ∷ [])) e la lp) f in
+    let l₁ = s .same-length in
+    let t = put-row T₁ y b q T₂ m (omega arith) lq (s .other-row y yx ∙ sym eb) (second-left Q d a b (w ∷ []) p q (w′ ∷ []) e la lb lp lq) g in
+    let l₂ = t .same-length in
+    let r : word T₂ i ≡ w = t .after i (omega arith) ∙ s .after i (omega arith) ∙ sym ew in
+    let u = put-number T₂ i w w′ U k (omega arith) r (third-left Q d a b (w ∷ []) p q (w′ ∷ []) e la lb lp lq .within 0) h in
+    let rows : T₂ ≡ stored (stored T x p) y q = g .0 ∙ ap (λ (W : List ℕ). stored W y q) (f .0) in
+    let made : U ≡ set (stored (stored T x p) y q) (64 * P .strings + v) w′ = h .0 ∙ ap₂ (λ (W : List ℕ) (j : ℕ). set W j w′) rows ei in
+    step-of P (sub x y v) T U (n + m + k) (made ∙ sub-placed P x y v yx hx hy hv T ln p q w′ lp lq (cc (e, ea, eb, ew, ei)))
+    (then-fewer (then-fewer (s .fewer) (t .fewer)) u)
+
+pub len-rows : (P : Problem) (T T₁ U : List ℕ) (x i v n m : ℕ) (a p : List ℕ) (w w′ : ℕ) → length T ≡ width P → x < P .strings → v < P .numbers
+    → i ≡ 64 * P .strings + v → a ≡ row T x → w ≡ word T i → p ++ (w′ ∷ []) ≡ narrowed (alone 1 1 []) (len 0 0) (a ++ (w ∷ []))
+    → (T₁ ≡ stored T x p) × (n ≡ struck a p) → (U ≡ set T₁ i w′) × (m ≡ struck (w ∷ []) (w′ ∷ []))
+    → length p ≡ 64 → Step P (len x v) T U (n + m)
+len-rows P T T₁ U x i v n m a p w w′ ln hx hv ei ea ew e f g lp =
+    let Q : Problem = alone 1 1 [] in
+    let d : Constraint = len 0 0 in
+    let la = taken-length P T x a ln hx ea in
+    let s = put-row T x a p T₁ n (omega arith) lp (sym ea) (front-left Q d a (w ∷ []) p (w′ ∷ []) e la lp) f in
+    let l₁ = s .same-length in
+    let u = put-number T₁ i w w′ U m (omega arith) (s .after i (omega arith) ∙ sym ew) (back-left Q d a (w ∷ []) p (w′ ∷ []) e la lp .within 0) g in
+    let made : U ≡ set (stored T x p) (64 * P .strings + v) w′ = g .0 ∙ ap₂ (λ (W : List ℕ) (j : ℕ). set W j w′) (f .0) ei in
+    step-of P (len x v) T U (n + m) (made ∙ len-placed P x v hx hv T ln p w′ lp (cc (e, ea, ew, ei))) (then-fewer (s .fewer) u)

@@ -1,0 +1,63 @@
+use native.Mathlib.Omega.{arith}
+use Rattle.eq.proofs.EqLaws.{eq-placed}
+use Rattle.steps.proofs.CountLaws.{row-most}
+use Rattle.steps.proofs.KindLaws.{front-left, back-left, two-rows}
+use borrow.Author.Needs.{needs}
+use Rattle.steps.proofs.eq_at.Statement.{statement}
+use Rattle.steps.proofs.eq_at.Tie as tie
+use Rattle.steps.proofs.eq_at.Reads as reads
+use Rattle.steps.proofs.eq_at.Lts as lts
+use Rattle.eq.proofs.narrow.Reads as narrow-reads
+use Rattle.rows.proofs.load.Reads as load-reads
+use Rattle.steps.proofs.put.Reads as put-reads
+
+load-requires : tie.Need-load-requires
+load-requires c κs = search needs
+
+load-requires-2 : tie.Need-load-requires-2
+load-requires-2 c κs = search needs
+
+narrow-requires : tie.Need-narrow-requires
+narrow-requires c κs = search needs
+
+put-requires : tie.Need-put-requires
+put-requires c κs = (search needs, front-left _ _ _ _ _ _ (c .before .before .before .narrow .ensures) (search needs) (search needs))
+
+put-requires-2 : tie.Need-put-requires-2
+put-requires-2 c κs =
+    let s = c .before .before .before .before .before .before .before in
+    (search needs, back-left _ _ (s .before .before .before .load .result) _ (s .narrow .result .x) _ (s .narrow .ensures) (search needs) (search needs))
+
+add-result : tie.Need-add-result
+add-result c =
+    let t = c .before .before in
+    let r = t .before .before .before .before in
+    let s = r .before .before .before .before in
+    omega (
+      arith,
+      row-most _ _ _ _ _ (s .before .before .before .load .ensures) (r .put .ensures .1),
+      row-most _ _ _ _ _ (s .before .load2 .ensures) (t .put2 .ensures .1),
+    )
+
+same-length : tie.Need-same-length
+same-length c = search needs
+
+returns : tie.Need-returns
+returns c =
+    let s = c .before .before .before .before .before .before .before .before .before .before in
+    λ P ln hx hy ne. two-rows P _ _ _ _ _ _ _ _ _ _ _ _ _ ln hx hy ne
+    (s .before .before .before .load .ensures) (s .before .load2 .ensures) (s .narrow .ensures)
+    (c .before .before .before .before .before .before .put .ensures) (c .before .before .put2 .ensures) (search needs) (eq-placed P _ _ ne hx hy _ ln)
+
+pub eq-at-spec : {M : Type 1} → statement M
+eq-at-spec =
+    tie.close
+    (tie.spec
+    load-requires
+    load-requires-2
+    narrow-requires
+    put-requires
+    put-requires-2
+    add-result
+    same-length
+    returns)

@@ -1,0 +1,98 @@
+use native.Mathlib.Omega.{arith}
+use mathlib.Core.Path.{refl}
+use Rattle.steps.proofs.CountLaws.{row-most, number-most}
+use Rattle.steps.proofs.KindLaws.{front-left, second-left, third-left, sub-rows}
+use borrow.Author.Needs.{needs}
+use Rattle.steps.proofs.sub_at.Statement.{statement}
+use Rattle.steps.proofs.sub_at.Tie as tie
+use Rattle.steps.proofs.sub_at.Reads as reads
+use Rattle.steps.proofs.sub_at.Lts as lts
+use Rattle.rows.proofs.load.Reads as load-reads
+use Rattle.steps.proofs.put.Reads as put-reads
+use Rattle.steps.proofs.put_number.Reads as put-number-reads
+use Rattle.sub.proofs.narrow.Reads as narrow-reads
+
+load-requires : tie.Need-load-requires
+load-requires c κs = search needs
+
+load-requires-2 : tie.Need-load-requires-2
+load-requires-2 c κs = search needs
+
+mul-w : tie.Need-mul-w
+mul-w c = search needs
+
+slice-read-w : tie.Need-slice-read-w
+slice-read-w c = search needs
+
+narrow-requires : tie.Need-narrow-requires
+narrow-requires c κs = search needs
+
+put-requires : tie.Need-put-requires
+put-requires c κs = (search needs, front-left _ _ _ _ _ _ (c .before .before .before .narrow .ensures) (search needs) (search needs))
+
+put-requires-2 : tie.Need-put-requires-2
+put-requires-2 c κs =
+    let s = c .before .before .before .before .before .before .before in (
+      search needs,
+      second-left _ _ (s .before .before .before .before .load .result) _ _ (s .narrow .result .x) _ _ (s .narrow .ensures)
+          (search needs) (search needs) (search needs) (search needs),
+    )
+
+add-result : tie.Need-add-result
+add-result c =
+    let t = c .before .before in
+    let r = t .before .before .before .before in
+    let s = r .before .before .before .before in
+    omega (
+      arith,
+      row-most _ _ _ _ _ (s .before .before .before .before .load .ensures) (r .put .ensures .1),
+      row-most _ _ _ _ _ (s .before .before .load2 .ensures) (t .put2 .ensures .1),
+    )
+
+put-number-requires : tie.Need-put-number-requires
+put-number-requires c κs =
+    let s = c .before .before .before .before .before .before .before .before .before .before .before in
+    let a = s .before .before .before .before .load .result in
+    let b = s .before .before .load2 .result in (
+      search needs,
+      third-left _ _ a b _ (s .narrow .result .x) (s .narrow .result .y) _ (s .narrow .ensures)
+          (search needs) (search needs) (search needs) (search needs) .within 0,
+    )
+
+add-result-2 : tie.Need-add-result-2
+add-result-2 c =
+    let u = c .before .before in
+    let t = u .before .before .before .before in
+    let r = t .before .before .before .before in
+    let s = r .before .before .before .before in
+    let a = row-most _ _ _ _ _ (s .before .before .before .before .load .ensures) (r .put .ensures .1) in
+    let b = row-most _ _ _ _ _ (s .before .before .load2 .ensures) (t .put2 .ensures .1) in
+    omega (arith, a, b, number-most _ _ _ (u .put-number .ensures .1))
+
+same-length : tie.Need-same-length
+same-length c = search needs
+
+returns : tie.Need-returns
+returns c =
+    let s = c .before .before .before .before .before .before .before .before .before .before .before .before .before .before in
+    λ P v ln hx hy ne hv ei. sub-rows P _ _ _ _ _ _ _ v _ _ _ _ _ _ _ _ _ ln hx hy ne hv ei
+    (s .before .before .before .before .load .ensures) (s .before .before .load2 .ensures) refl (s .narrow .ensures)
+    (c .before .before .before .before .before .before .before .before .before .before .put .ensures)
+    (c .before .before .before .before .before .before .put2 .ensures) (c .before .before .put-number .ensures) (search needs) (search needs)
+
+pub sub-at-spec : {M : Type 1} → statement M
+sub-at-spec =
+    tie.close
+    (tie.spec
+    load-requires
+    load-requires-2
+    mul-w
+    slice-read-w
+    narrow-requires
+    put-requires
+    put-requires-2
+    add-result
+    put-number-requires
+    add-result-2
+    same-length
+    returns)

@@ -1,0 +1,223 @@
+// One step on a lent table: the rows and the number that a constraint names are taken out, narrowed by its relation, and put back.
+//
+// Assumes nothing. `requires` asks what refusals 1 to 10 leave, and within the crate that positions lie inside the table.
+ghost use mathlib.Core.Path.{_≡_};
+ghost use mathlib.Core.Logic.{_≢_};
+ghost use mathlib.Core.Bool.{true};
+ghost use mathlib.Core.List.{[], _∷_};
+ghost use Prim.Native.Nat.{ℕ, _+_, _*_, _<_, _≤_};
+ghost use lib.ListN.{length, getD, set};
+ghost use Rattle.model.specs.Constraints.{Problem, width, always, eq, neq, rev, cat, sub, len, regular};
+ghost use Rattle.model.specs.Support.{struck};
+ghost use Rattle.model.specs.Operations.{stepAt, stepCount};
+ghost use Rattle.laws.proofs.ListLaws.{In};
+ghost use Rattle.laws.proofs.WordLaws.{Within};
+ghost use Rattle.laws.proofs.TableLaws.{Below};
+ghost use Rattle.laws.proofs.CallLaws.{lendable};
+ghost use Rattle.rows.specs.Rows.{stored};
+ghost use Rattle.records.specs.Records.{constraintOf};
+ghost use Rattle.format.specs.Accepting.{problemIn, Usable};
+ghost use Rattle.steps.specs.Step.{Step};
+
+// How many bits a word lost. Most words lose none, and counting is dear.
+fn fewer(old: u64, new: u64) -> u32
+    requires { ⌜ Within new old ⌝ }
+    ensures { λ r. ⌜ r ≡ struck (old ∷ []) (new ∷ []) ⌝ }
+{
+    if old == new {
+        return 0;
+    }
+    words::count(old) - words::count(new)
+}
+
+// How many bits a row lost.
+fn lost(old: [u64; 64], new: [u64; 64]) -> u32
+    requires { ⌜ Below new old ⌝ }
+    ensures { λ r. ⌜ r ≡ struck old new ⌝ }
+{
+    let mut n: u32 = 0;
+    let mut i: usize = 0;
+    while i < 64 {
+        n += fewer(old[i], new[i]);
+        i += 1;
+    }
+    n
+}
+
+// Puts what is left of string x's row back; how many bits it lost.
+fn put(table: &mut [u64], x: usize, old: [u64; 64], new: [u64; 64]) -> u32
+    requires { ⌜ (64 * x + 64 ≤ length (now table)) × Below new old ⌝ }
+    ensures { λ r. ⌜ (now (table .exit) ≡ stored (now (table .entry)) x new) × (r ≡ struck old new) ⌝ }
+{
+    rows::store(table, x, new);
+    lost(old, new)
+}
+
+// Puts what is left of a number's word back; how many bits it lost.
+fn put_number(table: &mut [u64], i: usize, old: u64, new: u64) -> u32
+    requires { ⌜ (i < length (now table)) × Within new old ⌝ }
+    ensures { λ r. ⌜ (now (table .exit) ≡ set (now (table .entry)) i new) × (r ≡ struck (old ∷ []) (new ∷ [])) ⌝ }
+{
+    table[i] = new;
+    fewer(old, new)
+}
+
+// Trims string x.
+pub fn trim(table: &mut [u64], x: usize) -> u32
+    requires { ⌜ 64 * x + 64 ≤ length (now table) ⌝ }
+    ensures { λ r. ⌜ ((P : Problem) → length (now (table .entry)) ≡ width P → x < P .strings → Step P (always x) (now (table .entry)) (now (table .exit)) r) ⌝ }
+{
+    let a = rows::load(table, x);
+    put(table, x, a, rows::trim(a))
+}
+
+// Eq(X, Y).
+fn eq_at(table: &mut [u64], x: usize, y: usize) -> u32
+    requires { ⌜ (64 * x + 64 ≤ length (now table)) × (64 * y + 64 ≤ length (now table)) ⌝ }
+    ensures { λ r. ⌜ ((P : Problem) → length (now (table .entry)) ≡ width P → x < P .strings → y < P .strings → y ≢ x
+        → Step P (eq x y) (now (table .entry)) (now (table .exit)) r) ⌝ }
+{
+    let a = rows::load(table, x);
+    let b = rows::load(table, y);
+    let n = eq::narrow(a, b);
+    let p = n.x;
+    let q = n.y;
+    put(table, x, a, p) + put(table, y, b, q)
+}
+
+// Neq(X, Y).
+fn neq_at(table: &mut [u64], x: usize, y: usize) -> u32
+    requires { ⌜ (64 * x + 64 ≤ length (now table)) × (64 * y + 64 ≤ length (now table)) ⌝ }
+    ensures { λ r. ⌜ ((P : Problem) → length (now (table .entry)) ≡ width P → x < P .strings → y < P .strings → y ≢ x
+        → Step P (neq x y) (now (table .entry)) (now (table .exit)) r) ⌝ }
+{
+    let a = rows::load(table, x);
+    let b = rows::load(table, y);
+    let n = neq::narrow(a, b);
+    let p = n.x;
+    let q = n.y;
+    put(table, x, a, p) + put(table, y, b, q)
+}
+
+// Rev(X, Y).
+fn rev_at(table: &mut [u64], x: usize, y: usize) -> u32
+    requires { ⌜ (64 * x + 64 ≤ length (now table)) × (64 * y + 64 ≤ length (now table)) ⌝ }
+    ensures { λ r. ⌜ ((P : Problem) → length (now (table .entry)) ≡ width P → x < P .strings → y < P .strings → y ≢ x
+        → Step P (rev x y) (now (table .entry)) (now (table .exit)) r) ⌝ }
+{
+    let a = rows::load(table, x);
+    let b = rows::load(table, y);
+    let n = rev::narrow(a, b);
+    let p = n.x;
+    let q = n.y;
+    put(table, x, a, p) + put(table, y, b, q)
+}
+
+// Cat(X, Y, Z).
+fn cat_at(table: &mut [u64], x: usize, y: usize, z: usize) -> u32
+    requires { ⌜ (64 * x + 64 ≤ length (now table)) × (64 * y + 64 ≤ length (now table)) × (64 * z + 64 ≤ length (now table)) ⌝ }
+    ensures { λ r. ⌜ ((P : Problem) → length (now (table .entry)) ≡ width P → x < P .strings → y < P .strings → z < P .strings → y ≢ x → z ≢ x → z ≢ y
+        → Step P (cat x y z) (now (table .entry)) (now (table .exit)) r) ⌝ }
+{
+    let a = rows::load(table, x);
+    let b = rows::load(table, y);
+    let c = rows::load(table, z);
+    let n = cat::narrow(a, b, c);
+    let p = n.x;
+    let q = n.y;
+    let o = n.z;
+    put(table, x, a, p) + put(table, y, b, q) + put(table, z, c, o)
+}
+
+// Sub(X, Y, N), where the word of N is word i.
+fn sub_at(table: &mut [u64], x: usize, y: usize, i: usize) -> u32
+    requires { ⌜ (64 * x + 64 ≤ length (now table)) × (64 * y + 64 ≤ length (now table)) × (i < length (now table)) ⌝ }
+    ensures { λ r. ⌜ ((P : Problem) (n : ℕ) → length (now (table .entry)) ≡ width P → x < P .strings → y < P .strings → y ≢ x → n < P .numbers
+        → i ≡ 64 * P .strings + n → Step P (sub x y n) (now (table .entry)) (now (table .exit)) r) ⌝ }
+{
+    let a = rows::load(table, x);
+    let b = rows::load(table, y);
+    let w = table[i];
+    let n = sub::narrow(a, b, w);
+    let p = n.x;
+    let q = n.y;
+    put(table, x, a, p) + put(table, y, b, q) + put_number(table, i, w, n.n)
+}
+
+// Len(X, N), where the word of N is word i.
+fn len_at(table: &mut [u64], x: usize, i: usize) -> u32
+    requires { ⌜ (64 * x + 64 ≤ length (now table)) × (i < length (now table)) ⌝ }
+    ensures { λ r. ⌜ ((P : Problem) (n : ℕ) → length (now (table .entry)) ≡ width P → x < P .strings → n < P .numbers → i ≡ 64 * P .strings + n
+        → Step P (len x n) (now (table .entry)) (now (table .exit)) r) ⌝ }
+{
+    let a = rows::load(table, x);
+    let w = table[i];
+    let n = len::narrow(a, w);
+    let p = n.x;
+    put(table, x, a, p) + put_number(table, i, w, n.n)
+}
+
+// Regular(X, D), with the automata of the file.
+fn regular_at(file: &[u8], p: layout::Parts, table: &mut [u64], x: usize, d: usize) -> u32
+    requires { ⌜ Usable (now file) p × (lendable (problemIn (now file) p) (now table) ≡ true) × (x < p .s) × (d < p .d) ⌝ }
+    ensures { λ r. ⌜ Step (problemIn (now (file .entry)) p) (regular x d) (now (table .entry)) (now (table .exit)) r ⌝ }
+{
+    let automata = p.automata_at;
+    let end = p.end;
+    let at = automata + automata::start(&file[automata..end], p.k, d);
+    let a = rows::load(table, x);
+    put(table, x, a, regular::narrow(&file[at..end], p.k, a))
+}
+
+// The constraint that a record of the file is.
+fn narrow(file: &[u8], p: layout::Parts, r: records::Record, table: &mut [u64]) -> u32
+    requires { ⌜ Usable (now file) p × (lendable (problemIn (now file) p) (now table) ≡ true) × In (constraintOf r) (problemIn (now file) p .constraints) ⌝ }
+    ensures { λ n. ⌜ Step (problemIn (now (file .entry)) p) (constraintOf r) (now (table .entry)) (now (table .exit)) n ⌝ }
+{
+    match r {
+        records::Record::Eq(x, y) => eq_at(table, x as usize, y as usize),
+        records::Record::Neq(x, y) => neq_at(table, x as usize, y as usize),
+        records::Record::Rev(x, y) => rev_at(table, x as usize, y as usize),
+        records::Record::Cat(x, y, z) => cat_at(table, x as usize, y as usize, z as usize),
+        records::Record::Sub(x, y, n) => sub_at(
+            table,
+            x as usize,
+            y as usize,
+            64 * p.s + n as usize,
+        ),
+        records::Record::Len(x, n) => len_at(table, x as usize, 64 * p.s + n as usize),
+        records::Record::Regular(x, d) => regular_at(file, p, table, x as usize, d as usize),
+    }
+}
+
+// Constraint j of the file; every record of an accepted file is one.
+pub fn constraint(file: &[u8], p: layout::Parts, j: usize, table: &mut [u64]) -> u32
+    requires { ⌜ Usable (now file) p × (lendable (problemIn (now file) p) (now table) ≡ true) × (j < p .c) ⌝ }
+    ensures { λ r. ⌜ Step (problemIn (now (file .entry)) p) (getD (problemIn (now (file .entry)) p .constraints) j (always 0))
+        (now (table .entry)) (now (table .exit)) r ⌝ }
+{
+    let constraints = p.constraints_at;
+    let automata = p.automata_at;
+    let records::Decoded::Constraint(r) = records::at(
+        &file[constraints..automata],
+        j,
+        p.s,
+        p.t,
+        p.d,
+    ) else {
+        return 0;
+    };
+    narrow(file, p, r, table)
+}
+
+// Step j: constraint j below c, else the trimming of string j - c.
+pub fn step(file: &[u8], p: layout::Parts, j: usize, table: &mut [u64]) -> u32
+    requires { ⌜ Usable (now file) p × (lendable (problemIn (now file) p) (now table) ≡ true) × (j < p .c + p .s) ⌝ }
+    ensures { λ r. ⌜ Step (problemIn (now (file .entry)) p) (stepAt (problemIn (now (file .entry)) p) j) (now (table .entry)) (now (table .exit)) r ⌝ }
+{
+    if j < p.c {
+        constraint(file, p, j, table)
+    } else {
+        trim(table, j - p.c)
+    }
+}
