@@ -1,0 +1,106 @@
+-- One table of a room changes, by a store or because it was lent, and the others stay. Assumes nothing.
+use mathlib.Core.Path.{_≡_, refl, sym, ap, _∙_}
+use mathlib.Core.Logic.{_≢_}
+use mathlib.Core.List.{List}
+use Prim.Native.Nat.{ℕ, suc, _+_, _-_, _*_, _≤_, _<_}
+use native.Mathlib.Nat.{mul-suc, mul-le-mul-left}
+use native.Mathlib.Omega.{arith}
+use lib.ListN.{length, set, take, drop}
+use lib.Seq.{getD-take, getD-drop}
+use Rattle.model.specs.Words.{word}
+use Rattle.laws.proofs.PartLaws.{Outside, drop-after, other-block, set-outside, part-set, replaced, part-replaced, replaced-outside}
+use Rattle.laws.proofs.LayoutLaws.{part-length}
+use Rattle.room.specs.Tables.{tableAt, Tables}
+
+pub tables-of : (m : ℕ) (R : List ℕ) → Tables m R (tableAt m 0 R) (tableAt m 1 R) (tableAt m 2 R) (drop (3 * m) R)
+tables-of m R = record { current = refl; decided = refl; waiting = refl; beyond = refl }
+
+pub tableAt-word : (m q j : ℕ) (R : List ℕ) → j < m → word (tableAt m q R) j ≡ word R (m * q + j)
+unfolding tableAt
+tableAt-word m q j R h = getD-take m (drop (m * q) R) j 0 h ∙ getD-drop (m * q) R j 0
+
+table-end : (m q : ℕ) → q < 3 → m * q + m ≤ 3 * m
+table-end m q h = omega (arith, mul-le-mul-left m h, mul-suc m q)
+
+pub tableAt-length : (m q : ℕ) (R : List ℕ) → q < 3 → 3 * m ≤ length R → length (tableAt m q R) ≡ m
+unfolding tableAt
+tableAt-length m q R h l = part-length (m * q) m R (omega (arith, table-end m q h))
+
+-- what is lent of a room from a to a + n is its table q
+pub lent-part : (m q a n : ℕ) (R : List ℕ) → a ≡ m * q → n ≡ m → take n (drop a R) ≡ tableAt m q R
+unfolding tableAt
+lent-part m q a n R e w = ap (λ (b : ℕ). take n (drop b R)) e ∙ ap (λ (b : ℕ). take b (drop (m * q) R)) w
+
+-- U is R, but that table q is t
+record With (m q : ℕ) (R U t : List ℕ) : Type 0 where
+  table : tableAt m q U ≡ t
+  others : (p : ℕ) → p ≢ q → tableAt m p U ≡ tableAt m p R
+  end : drop (3 * m) U ≡ drop (3 * m) R
+
+outside-with : (m q a e : ℕ) (R U t : List ℕ) → q < 3 → m * q ≤ a → e ≤ m * q + m → Outside a e R U → tableAt m q U ≡ t → With m q R U t
+unfolding tableAt
+outside-with m q a e R U t h l r o s = record {
+  table = s;
+  others = λ p n. other-block a e R U o m q p l r n;
+  end = drop-after a e R U o (3 * m) (omega (arith, table-end m q h));
+}
+
+-- word i of the room is word k of table q
+set-with : (m q k i v : ℕ) (R : List ℕ) → q < 3 → k < m → i ≡ m * q + k → With m q R (set R i v) (set (tableAt m q R) k v)
+unfolding tableAt
+set-with m q k i v R l h e = outside-with m q i (suc i) R (set R i v) _ l (omega arith) (omega arith) (set-outside R i v)
+    (ap (λ (j : ℕ). tableAt m q (set R j v)) e ∙ part-set (m * q) m k v R h)
+
+-- table q begins at a and has n words
+lent-with : (m q a n : ℕ) (R ys : List ℕ) → q < 3 → a ≡ m * q → n ≡ m → 3 * m ≤ length R → length ys ≡ m → With m q R (replaced R a n ys) ys
+lent-with m q a n R ys l e w fits size =
+    let end = table-end m q l in
+    outside-with m q a (a + n) R (replaced R a n ys) ys l (omega arith) (omega arith) (replaced-outside R a n ys (omega arith) (size ∙ sym w))
+    (sym (lent-part m q a n (replaced R a n ys) e w) ∙ part-replaced R a n ys (omega arith) (size ∙ sym w))
+
+module _ (m : ℕ) (R cur dec alt rest : List ℕ) (T : Tables m R cur dec alt rest) where
+  with-current : (U t : List ℕ) → With m 0 R U t → Tables m U t dec alt rest
+  with-current U t c = record {
+    current = c .table;
+    decided = c .others 1 (omega arith) ∙ T .decided;
+    waiting = c .others 2 (omega arith) ∙ T .waiting;
+    beyond = c .end ∙ T .beyond;
+  }
+
+  with-decided : (U t : List ℕ) → With m 1 R U t → Tables m U cur t alt rest
+  with-decided U t c = record {
+    current = c .others 0 (omega arith) ∙ T .current;
+    decided = c .table;
+    waiting = c .others 2 (omega arith) ∙ T .waiting;
+    beyond = c .end ∙ T .beyond;
+  }
+
+  with-waiting : (U t : List ℕ) → With m 2 R U t → Tables m U cur dec t rest
+  with-waiting U t c = record {
+    current = c .others 0 (omega arith) ∙ T .current;
+    decided = c .others 1 (omega arith) ∙ T .decided;
+    waiting = c .table;
+    beyond = c .end ∙ T .beyond;
+  }
+
+  -- word k of a table is stored
+  module _ (k v : ℕ) (h : k < m) where
+    pub set-current : Tables m (set R k v) (set cur k v) dec alt rest
+    set-current = with-current _ _ (rw (← T .current) (set-with m 0 k k v R (omega arith) h (omega arith)))
+
+    pub set-decided : Tables m (set R (m + k) v) cur (set dec k v) alt rest
+    set-decided = with-decided _ _ (rw (← T .decided) (set-with m 1 k (m + k) v R (omega arith) h (omega arith)))
+
+    pub set-waiting : Tables m (set R (2 * m + k) v) cur dec (set alt k v) rest
+    set-waiting = with-waiting _ _ (rw (← T .waiting) (set-with m 2 k (2 * m + k) v R (omega arith) h (omega arith)))
+
+  -- a table was lent, and has come back as ys
+  module _ (ys : List ℕ) (fits : 3 * m ≤ length R) (size : length ys ≡ m) where
+    pub lent-current : Tables m (replaced R 0 m ys) ys dec alt rest
+    lent-current = with-current _ _ (lent-with m 0 0 m R ys (omega arith) (omega arith) refl fits size)
+
+    pub lent-decided : Tables m (replaced R m (2 * m - m) ys) cur ys alt rest
+    lent-decided = with-decided _ _ (lent-with m 1 m (2 * m - m) R ys (omega arith) (omega arith) (omega arith) fits size)
+
+    pub lent-waiting : Tables m (replaced R (2 * m) (3 * m - 2 * m) ys) cur dec ys rest
+    lent-waiting = with-waiting _ _ (lent-with m 2 (2 * m) (3 * m - 2 * m) R ys (omega arith) (omega arith) (omega arith) fits size)

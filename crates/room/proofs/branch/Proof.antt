@@ -1,0 +1,67 @@
+use mathlib.Core.Path.{sym, _∙_}
+use Prim.Native.Nat.{ℕ, _-_, _≤_, _<_}
+use native.Mathlib.Omega.{arith}
+use Rattle.model.specs.Words.{word}
+use Rattle.laws.proofs.BitsLaws.{Single, several-true, several-false}
+use borrow.Author.Needs.{needs}
+use borrow.Author.Count.{below-more}
+use Rattle.room.proofs.branch.Statement.{statement}
+use Rattle.room.proofs.branch.Tie as tie
+use Rattle.room.proofs.branch.Reads as reads
+use Rattle.room.proofs.branch.Lts as lts
+use Rattle.words.proofs.several.Reads as several-reads
+
+abbrev Inv-loop : tie.InvT-loop
+Inv-loop table n i₀ i = (i ≤ n) × ((j : ℕ) → j < i → Single (word table j))
+
+abbrev μ-loop : tie.MeasureT-loop
+μ-loop table n i₀ i = n - i
+
+loop-holds : tie.Need-loop-holds Inv-loop μ-loop
+loop-holds c = search needs
+
+mul-several : tie.Need-mul-several Inv-loop μ-loop
+mul-several c = search needs
+
+shared-slice-read-several : tie.Need-shared-slice-read-several Inv-loop μ-loop
+shared-slice-read-several c = search needs
+
+several-requires : tie.Need-several-requires Inv-loop μ-loop
+several-requires c κs = search needs
+
+returns : tie.Need-returns Inv-loop μ-loop
+returns c = record {
+  most = search needs;
+  here = λ h. several-true _ (sym (c .before .several .ensures) ∙ c .if1 .taken);
+  before = c .before .before .before .before .loop .inv .1;
+}
+
+add-i : tie.Need-add-i Inv-loop μ-loop
+add-i c = search needs
+
+loop-less : tie.Need-loop-less Inv-loop μ-loop
+loop-less c = search needs
+
+loop-again : tie.Need-loop-again Inv-loop μ-loop
+loop-again c =
+    let f = several-false _ (sym (c .before .several .ensures) ∙ c .if1 .left) in
+    (search needs, below-more _ _ (c .before .before .before .before .loop .inv .1) f)
+
+returns-2 : tie.Need-returns-2 Inv-loop μ-loop
+returns-2 c = record { most = search needs; here = λ h. absurd (omega arith); before = λ j h. c .before .loop .inv .1 j (omega arith) }
+
+pub branch-spec : {M : Type 1} → statement M
+branch-spec =
+    tie.close
+    (tie.spec
+    Inv-loop
+    μ-loop
+    loop-holds
+    mul-several
+    shared-slice-read-several
+    several-requires
+    returns
+    add-i
+    loop-less
+    loop-again
+    returns-2)

@@ -1,0 +1,62 @@
+use mathlib.Core.Path.{_≡_}
+use Prim.Native.Nat.{ℕ, _≤_}
+use native.Mathlib.Omega.{arith}
+use lib.ListN.{length, List·getD-eq-default}
+use Rattle.model.specs.Words.{word}
+use Rattle.room.proofs.MoveLaws.{nothing-step}
+use borrow.Author.Needs.{needs}
+use Rattle.room.proofs.waiting.Statement.{statement}
+use Rattle.room.proofs.waiting.Tie as tie
+use Rattle.room.proofs.waiting.Reads as reads
+use Rattle.room.proofs.waiting.Lts as lts
+
+abbrev Inv-loop : tie.InvT-loop
+Inv-loop table k₀ k = (k ≤ length table) × ((j : ℕ) → k ≤ j → word table j ≡ 0)
+
+abbrev μ-loop : tie.MeasureT-loop
+μ-loop table k₀ k = k
+
+loop-holds : tie.Need-loop-holds Inv-loop μ-loop
+loop-holds c = (search needs, λ j h. List·getD-eq-default (c .args .table .now) 0 h)
+
+sub-if1 : tie.Need-sub-if1 Inv-loop μ-loop
+sub-if1 c = search needs
+
+mul-if1 : tie.Need-mul-if1 Inv-loop μ-loop
+mul-if1 c = search needs
+
+shared-slice-read-if1 : tie.Need-shared-slice-read-if1 Inv-loop μ-loop
+shared-slice-read-if1 c = search needs
+
+returns : tie.Need-returns Inv-loop μ-loop
+returns c = record { most = search needs; here = λ h. omega (arith, c .if1 .taken); after = c .before .before .before .loop .inv .1 }
+
+sub-k : tie.Need-sub-k Inv-loop μ-loop
+sub-k c = search needs
+
+loop-less : tie.Need-loop-less Inv-loop μ-loop
+loop-less c = search needs
+
+loop-again : tie.Need-loop-again Inv-loop μ-loop
+loop-again c =
+    let l = c .before .before .before .loop in
+    (search needs, nothing-step (c .before .before .before .before .args .table .now) (l .k) (search needs) (c .if1 .left) (l .inv .1))
+
+returns-2 : tie.Need-returns-2 Inv-loop μ-loop
+returns-2 c = record { most = search needs; here = λ h. absurd (omega arith); after = λ j h. c .before .loop .inv .1 j (omega arith) }
+
+pub waiting-spec : {M : Type 1} → statement M
+waiting-spec =
+    tie.close
+    (tie.spec
+    Inv-loop
+    μ-loop
+    loop-holds
+    sub-if1
+    mul-if1
+    shared-slice-read-if1
+    returns
+    sub-k
+    loop-less
+    loop-again
+    returns-2)

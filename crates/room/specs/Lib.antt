@@ -1,0 +1,2 @@
+-- The definitions that the contracts of `room` cite.
+pub mod Tables
