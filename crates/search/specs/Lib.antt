@@ -1,0 +1,3 @@
+-- The definitions that the contracts of `search` cite.
+pub mod Visits
+pub mod Outcomes
