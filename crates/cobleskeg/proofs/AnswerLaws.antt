@@ -1,48 +1,67 @@
--- What Read and Unpack answer and leave, by what looking the file over gave. Assumes nothing.
+-- What reading a file gives, and what Read and Unpack answer and leave, by what looking the file over gave. Assumes nothing.
 use mathlib.Core.Path.{_≡_, sym, ap, subst, _∙_}
 use mathlib.Core.Logic.{_≢_}
 use mathlib.Core.List.{List, map}
 use Prim.Native.Nat.{ℕ, _+_, _*_}
-use native.Mathlib.Omega.{arith}
 use lib.ListN.{length, take}
-use lib.Seq.{length-take-le}
-use Rattle.model.specs.Replies.{refused, answered, leaves}
+use borrow.Author.Tests.{eq-eqb, ne-eqb}
+use Rattle.model.specs.Constraints.{width}
+use Rattle.model.specs.Replies.{refused, answered, require, andThen, leaves}
 use Rattle.model.specs.Layout.{little}
 use Rattle.model.specs.Reading.{pieces, reading}
-use Rattle.model.specs.Operations.{read, unpack}
+use Rattle.model.specs.Operations.{Header, read, requireLength, unpack}
 use Rattle.layout.specs.declared.Parts.{Parts}
 use Rattle.layout.specs.declared.Layout.{Layout}
 use Rattle.layout.specs.declared.Layout.the-variants.{Refused, Laid}
 use Rattle.layout.specs.Replied.{partsOf, replyOf, PartsFit, Fitted}
-use Rattle.format.specs.Accepting.{accepted}
+use Rattle.format.specs.Accepting.{accepted, contentOf, problemIn, tableIn, Usable}
+use Rattle.format.proofs.AcceptLaws.{reading-refused}
+use Rattle.format.proofs.ContentLaws.{accepted-usable, accepted-reading, usable-counts, usable-width, usable-bytes, usable-table}
 use Rattle.cobleskeg.specs.declared.ReadAnswer.the-variants as ofRead
 use Rattle.cobleskeg.specs.declared.UnpackAnswer.{UnpackAnswer}
 use Rattle.cobleskeg.specs.declared.UnpackAnswer.the-variants as ofUnpack
 use Rattle.cobleskeg.specs.Answers.{headerOf, readReply, unpackReply}
-use Rattle.cobleskeg.proofs.EntryLaws.{countsOf, read-refused, read-held, unpack-refused, unpack-other, unpack-table}
 
 module _ (file : List ℕ) (l : Layout) (told : (replyOf file l ≡ accepted file) × Fitted file l) where
-  refusal : (n : ℕ) → l ≡ Refused n → refused n ≡ accepted file
-  unfolding replyOf
-  refusal n q = ap (replyOf file) (sym q) ∙ told .0
+  -- ---- what reading the file gives
 
-  parts : (p : Parts) → l ≡ Laid p → answered (partsOf file p) ≡ accepted file
+  pub early-reading : (n : ℕ) → l ≡ Refused n → reading file ≡ refused n
   unfolding replyOf
-  parts p q = ap (replyOf file) (sym q) ∙ told .0
+  early-reading n q = reading-refused file n (ap (replyOf file) (sym q) ∙ told .0)
 
-  pub fit : (p : Parts) → l ≡ Laid p → PartsFit file p
-  fit p q = subst (Fitted file) q (told .1)
+  module _ (p : Parts) (q : l ≡ Laid p) where
+    parts : answered (partsOf file p) ≡ accepted file
+    unfolding replyOf
+    parts = ap (replyOf file) (sym q) ∙ told .0
+
+    pub fit : PartsFit file p
+    fit = subst (Fitted file) q (told .1)
+
+    pub laid-reading : reading file ≡ answered (contentOf file p)
+    laid-reading = accepted-reading file p parts
+
+    pub laid-usable : Usable file p
+    laid-usable = accepted-usable file p parts fit
 
   -- ---- Read
 
-  pub answer-refused : (n : ℕ) → l ≡ Refused n → readReply (ofRead.Refused n) ≡ read (reading file)
-  unfolding readReply
-  answer-refused n q = read-refused file n (refusal n q)
+  pub read-early : (n : ℕ) → l ≡ Refused n → readReply (ofRead.Refused n) ≡ read (reading file)
+  unfolding readReply read andThen
+  read-early n q = ap read (sym (early-reading n q))
 
-  pub answer-counts : (p : Parts) → l ≡ Laid p
+  pub read-counts : (p : Parts) → l ≡ Laid p
       → readReply (ofRead.Counts (record { symbols = p .k; strings = p .s; numbers = p .t; automata = p .d; constraints = p .c })) ≡ read (reading file)
-  unfolding readReply headerOf countsOf partsOf
-  answer-counts p q = read-held file (partsOf file p) (parts p q)
+  unfolding readReply headerOf read andThen
+  read-counts p q =
+      let c = usable-counts file p (laid-usable p q) in
+      let same : _≡_ {A = Header} (record { symbols = p .k; strings = p .s; numbers = p .t; automata = p .d; constraints = p .c }) (record {
+        symbols = problemIn file p .symbols;
+        strings = problemIn file p .strings;
+        numbers = problemIn file p .numbers;
+        automata = length (problemIn file p .automata);
+        constraints = length (problemIn file p .constraints);
+      }) = cc (c .symbols, c .strings, c .numbers, c .automata, c .constraints) in
+      ap answered same ∙ ap read (sym (laid-reading p q))
 
   -- ---- Unpack
 
@@ -51,29 +70,33 @@ module _ (file : List ℕ) (l : Layout) (told : (replyOf file l ≡ accepted fil
     abbrev Answers : List ℕ → UnpackAnswer → Type 0
     Answers U a = (unpackReply U a ≡ unpack (reading file) T) × (U ≡ leaves (λ T. T) (unpack (reading file) T) T)
 
-    refused-leaves : (n : ℕ) → refused n ≡ unpack (reading file) T → Answers T (ofUnpack.Refused n)
+    unpack-leaves : (n : ℕ) → unpack (reading file) T ≡ refused n → Answers T (ofUnpack.Refused n)
     unfolding unpackReply leaves
-    refused-leaves n e = (e, ap (λ r. leaves (λ T. T) r T) e)
+    unpack-leaves n e = (sym e, ap (λ r. leaves (λ T. T) r T) (sym e))
 
     pub unpack-early : (n : ℕ) → l ≡ Refused n → Answers T (ofUnpack.Refused n)
-    unpack-early n q = refused-leaves n (unpack-refused file T n (refusal n q))
+    unfolding unpack andThen
+    unpack-early n q = unpack-leaves n (ap (λ r. unpack r T) (early-reading n q))
 
     module _ (p : Parts) (q : l ≡ Laid p) where
+      words-are : width (problemIn file p) ≡ 64 * p .s + p .t
+      words-are = usable-width file p (laid-usable p q)
+
+      on-parts : unpack (reading file) T ≡ unpack (answered (contentOf file p)) T
+      on-parts = ap (λ r. unpack r T) (laid-reading p q)
+
       pub unpack-nine : length T ≢ 64 * p .s + p .t → Answers T (ofUnpack.Refused 9)
-      unfolding partsOf
-      unpack-nine h = refused-leaves 9 (unpack-other file T (partsOf file p) (parts p q) h)
+      unfolding unpack andThen requireLength require
+      unpack-nine h = unpack-leaves 9 (on-parts ∙ rw (ne-eqb (length T) (width (problemIn file p)) (λ e. h (e ∙ words-are))))
 
-      -- what unpacking asks
-      pub table-there : length T ≡ 64 * p .s + p .t → length (take (p .«constraints_at») file) ≡ 8 * length T
-      table-there h =
-          let f = fit p q in
-          length-take-le (p .«constraints_at») file (omega (arith, f .constraints-end, f .automata-end, f .trailer-end)) ∙ omega (arith, f .table-end)
+      module _ (h : length T ≡ 64 * p .s + p .t) where
+        -- what unpacking asks
+        pub table-there : length (take (p .«constraints_at») file) ≡ 8 * length T
+        table-there = usable-bytes file p (laid-usable p q) ∙ ap (λ (n : ℕ). 8 * n) (sym h)
 
-      pub unpack-whole : (U : List ℕ) → length T ≡ 64 * p .s + p .t → U ≡ map little (pieces (length T) 8 (take (p .«constraints_at») file)) → Answers U ofUnpack.Unpacked
-      unfolding unpackReply leaves partsOf
-      unpack-whole U h u =
-          let f = fit p q in
-          let v : U ≡ map little (pieces (length T) 8 (take (8 * (64 * p .s + p .t)) file)) =
-          u ∙ ap (λ (n : ℕ). map little (pieces (length T) 8 (take n file))) (f .table-end) in
-          let e = unpack-table file T (partsOf file p) (parts p q) h in
-          (ap answered v ∙ e, v ∙ ap (λ r. leaves (λ T. T) r T) e)
+        pub unpack-whole : (U : List ℕ) → U ≡ map little (pieces (length T) 8 (take (p .«constraints_at») file)) → Answers U ofUnpack.Unpacked
+        unfolding unpack andThen requireLength require unpackReply leaves
+        unpack-whole U u =
+            let table : U ≡ tableIn file p = u ∙ ap (λ (n : ℕ). map little (pieces n 8 (take (p .«constraints_at») file))) h ∙ sym (usable-table file p (laid-usable p q)) in
+            let same : answered U ≡ unpack (reading file) T = sym (on-parts ∙ rw (eq-eqb (length T) (width (problemIn file p)) (h ∙ sym words-are)) (ap answered (sym table))) in
+            (same, ap (λ r. leaves (λ T. T) r T) same)

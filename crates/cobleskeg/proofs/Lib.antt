@@ -1,3 +1,5 @@
--- The laws of the entries: their replies, and what they answer and leave, by what looking the file over gave.
-pub mod EntryLaws
+-- The laws of the entries, by what looking the file over gave: what reading it gives, Read and Unpack; Step and Settle; Search; a list of calls.
 pub mod AnswerLaws
+pub mod LentLaws
+pub mod SearchLaws
+pub mod PerformLaws

@@ -2,10 +2,15 @@
 //
 // Assumes nothing.
 ghost use mathlib.Core.Path.{_≡_};
+ghost use mathlib.Core.List.{map};
+ghost use Prim.Native.Nat.{_≤_};
+ghost use Rattle.model.specs.Constraints.{Problem};
 ghost use Rattle.model.specs.Replies.{leaves};
 ghost use Rattle.model.specs.Reading.{reading};
-ghost use Rattle.model.specs.Operations.{read, unpack};
-ghost use Rattle.cobleskeg.specs.Answers.{readReply, unpackReply};
+ghost use Rattle.model.specs.Operations.{read, unpack, Stepped, step, Settlement, settle, Searched, search};
+ghost use Rattle.model.specs.Claim.{call, calls};
+ghost use Rattle.cobleskeg.specs.Answers.{lentNumber, readReply, unpackReply, stepReply, settleReply, searchReply};
+ghost use Rattle.cobleskeg.specs.Claims.{callOf, SearchHolds, ListHolds};
 
 // The counts of symbols, strings, numbers, automata and constraints.
 pub struct Header {
@@ -26,6 +31,32 @@ pub enum ReadAnswer {
 pub enum UnpackAnswer {
     Refused(u8),
     Unpacked,
+}
+
+// What Step answers: how many bits it struck.
+pub enum StepAnswer {
+    Refused(u8),
+    Struck(u32),
+}
+
+// How many rounds there were, the last included, and whether every variable has a value after them.
+pub struct Rounds {
+    pub count: u32,
+    pub every_value: bool,
+}
+
+// What Settle answers.
+pub enum SettleAnswer {
+    Refused(u8),
+    Settled(Rounds),
+}
+
+// What Search answers, with the count of the nodes that it visited.
+pub enum SearchAnswer {
+    Refused(u8),
+    Found(u32),
+    None(u32),
+    Spent(u32),
 }
 
 // Read: the counts of a file, or the first of the refusals 1 to 8.
@@ -62,5 +93,114 @@ pub fn unpack(file: &[u8], table: &mut [u64]) -> UnpackAnswer
             tables::unpack(&file[..end], table);
             UnpackAnswer::Unpacked
         }
+    }
+}
+
+// Refusals 9 and 10 of a lent table, or 0.
+fn unlendable(p: layout::Parts, table: &[u64]) -> u8
+    requires { ⌜ (1 ≤ p .k) × (p .k ≤ 64) × (p .s ≤ 16) × (p .t ≤ 16) ⌝ }
+    ensures { λ r. ⌜ ((P : Problem) → P .symbols ≡ p .k → P .strings ≡ p .s → P .numbers ≡ p .t → r ≡ lentNumber P (now (table .entry))) ⌝ }
+{
+    let words = 64 * p.s + p.t;
+    if table.len() != words {
+        return 9;
+    }
+    if !tables::table_low(table, p.k, p.s) {
+        return 10;
+    }
+    0
+}
+
+// Step j: constraint j below c, else the trimming of string j - c; or the first of the refusals 1 to 11.
+pub fn step(file: &[u8], j: usize, table: &mut [u64]) -> StepAnswer
+    ensures { λ r. ⌜ stepReply (now (table .exit)) r ≡ step (reading (now (file .entry))) j (now (table .entry)) ⌝ }
+    ensures { λ r. ⌜ now (table .exit) ≡ leaves (λ (a : Stepped). a .table) (step (reading (now (file .entry))) j (now (table .entry))) (now (table .entry)) ⌝ }
+{
+    match format::accept(file) {
+        layout::Layout::Refused(n) => StepAnswer::Refused(n),
+        layout::Layout::Laid(p) => {
+            let n = unlendable(p, table);
+            if n != 0 {
+                return StepAnswer::Refused(n);
+            }
+            if j >= p.c + p.s {
+                return StepAnswer::Refused(11);
+            }
+            StepAnswer::Struck(steps::step(file, p, j, table))
+        }
+    }
+}
+
+// Settle: rounds until one strikes nothing, or the first of the refusals 1 to 10.
+pub fn settle(file: &[u8], table: &mut [u64]) -> SettleAnswer
+    ensures { λ r. ⌜ settleReply (now (table .exit)) r ≡ settle (reading (now (file .entry))) (now (table .entry)) ⌝ }
+    ensures { λ r. ⌜ now (table .exit)
+        ≡ leaves (λ (a : Settlement). a .table) (settle (reading (now (file .entry))) (now (table .entry))) (now (table .entry)) ⌝ }
+{
+    match format::accept(file) {
+        layout::Layout::Refused(n) => SettleAnswer::Refused(n),
+        layout::Layout::Laid(p) => {
+            let n = unlendable(p, table);
+            if n != 0 {
+                return SettleAnswer::Refused(n);
+            }
+            let count = rounds::settle(file, p, table);
+            let every_value = rounds::every_value(table, p.s);
+            let r = Rounds { count, every_value };
+            SettleAnswer::Settled(r)
+        }
+    }
+}
+
+// Search: the first solution of the file, within a budget of nodes; or the first of the refusals 1 to 8, 12 and 13.
+pub fn search(file: &[u8], budget: u32, room: &mut [u64], table: &mut [u64]) -> SearchAnswer
+    ensures { λ r. ⌜ searchReply (now (room .exit)) (now (table .exit)) r
+        ≡ search (reading (now (file .entry))) budget (now (room .entry)) (now (table .entry)) ⌝ }
+    ensures { λ r. ⌜ now (room .exit)
+        ≡ leaves (λ (a : Searched). a .room) (search (reading (now (file .entry))) budget (now (room .entry)) (now (table .entry))) (now (room .entry)) ⌝ }
+    ensures { λ r. ⌜ now (table .exit)
+        ≡ leaves (λ (a : Searched). a .table) (search (reading (now (file .entry))) budget (now (room .entry)) (now (table .entry))) (now (table .entry)) ⌝ }
+    ensures { λ r. ⌜ SearchHolds (now (file .entry)) budget (now (room .entry)) (now (table .entry)) r (now (table .exit)) ⌝ }
+{
+    match format::accept(file) {
+        layout::Layout::Refused(n) => SearchAnswer::Refused(n),
+        layout::Layout::Laid(p) => {
+            let words = 64 * p.s + p.t;
+            if room.len() < 3 * words {
+                return SearchAnswer::Refused(12);
+            }
+            if table.len() != words {
+                return SearchAnswer::Refused(13);
+            }
+            match search::search(file, p, budget, room, table) {
+                search::Outcome::Found(n) => SearchAnswer::Found(n),
+                search::Outcome::None(n) => SearchAnswer::None(n),
+                search::Outcome::Spent(n) => SearchAnswer::Spent(n),
+            }
+        }
+    }
+}
+
+// The number of Settle in a list of calls; every other number is that of a Step.
+pub const SETTLE: u32 = 4294967295;
+
+// One call of a list.
+fn call(file: &[u8], n: u32, table: &mut [u64])
+    ensures { λ r. ⌜ now (table .exit) ≡ call (reading (now (file .entry))) (callOf n) (now (table .entry)) ⌝ }
+{
+    if n == SETTLE {
+        settle(file, table);
+    } else {
+        step(file, n as usize, table);
+    }
+}
+
+// A list of Step and Settle calls on one table, one after the other; a refused call leaves the table as it was.
+pub fn perform(file: &[u8], list: &[u32], table: &mut [u64])
+    ensures { λ r. ⌜ now (table .exit) ≡ calls (reading (now (file .entry))) (map callOf (now (list .entry))) (now (table .entry)) ⌝ }
+    ensures { λ r. ⌜ ListHolds (now (file .entry)) (now (table .entry)) (now (table .exit)) ⌝ }
+{
+    for i in 0..list.len() {
+        call(file, list[i], table);
     }
 }

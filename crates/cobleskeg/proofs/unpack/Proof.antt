@@ -32,7 +32,9 @@ slice-aggregate-unpack : tie.Need-slice-aggregate-unpack
 slice-aggregate-unpack c = let f = fit _ _ (c .before .before .before .before .before .before .before .accept .ensures) _ (c .before .before .before .before .before .p .given .1) in sym (length-take-le _ _ (omega (arith, f .constraints-end, f .automata-end, f .trailer-end)))
 
 unpack-requires : tie.Need-unpack-requires
-unpack-requires c κs = table-there _ _ (c .before .before .before .before .before .before .before .before .accept .ensures) (c .before .before .before .before .before .before .before .before .before .before .before .args .table .now) _ (c .before .before .before .before .before .before .p .given .1) (c .before .before .if1 .left)
+unpack-requires c κs =
+    let looked = c .before .before .before .before .before .before .before .before in
+    table-there _ _ (looked .accept .ensures) (looked .before .before .before .args .table .now) _ (c .before .before .before .before .before .before .p .given .1) (c .before .before .if1 .left)
 
 returns-2 : tie.Need-returns-2
 returns-2 c = unpack-early _ _ (c .before .before .before .accept .ensures) _ _ (c .before .n .given .1)
@@ -41,7 +43,9 @@ same-length : tie.Need-same-length
 same-length c = search needs
 
 returns-3 : tie.Need-returns-3
-returns-3 c = unpack-whole _ _ (c .before .before .before .before .before .before .before .before .before .before .before .accept .ensures) (c .before .before .before .before .before .before .before .before .before .before .before .before .before .before .args .table .now) _ (c .before .before .before .before .before .before .before .before .before .p .given .1) _ (c .before .before .before .before .before .if1 .left) (c .before .before .unpack .ensures)
+returns-3 c =
+    let looked = c .before .before .before .before .before .before .before .before .before .before .before in
+    unpack-whole _ _ (looked .accept .ensures) (looked .before .before .before .args .table .now) _ (c .before .before .before .before .before .before .before .before .before .p .given .1) (c .before .before .before .before .before .if1 .left) _ (c .before .before .unpack .ensures)
 
 pub unpack-spec : {M : Type 1} → statement M
 unpack-spec =

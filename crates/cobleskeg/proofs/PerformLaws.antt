@@ -1,0 +1,71 @@
+-- A list of calls, one after the other, and that it keeps demand 3. Assumes nothing.
+use mathlib.Core.Path.{_≡_, refl, sym, ap, subst, _∙_}
+use mathlib.Core.Bool.{true, false, cond}
+use mathlib.Core.List.{List, [], _∷_, _++_, map, map-append}
+use Prim.Native.Nat.{ℕ, _+_, _≤_, _<_}
+use native.Mathlib.Omega.{arith}
+use native.Mathlib.Numerals.{add-one}
+use lib.ListN.{length, getD, take}
+use lib.Seq.{take-suc, take-all}
+use borrow.Author.Tests.{eq-eqb, ne-eqb}
+use Rattle.model.specs.Words.{Words}
+use Rattle.model.specs.Replies.{answered, leaves}
+use Rattle.model.specs.Layout.{Bytes}
+use Rattle.model.specs.Reading.{Accepted, Reading, reading}
+use Rattle.model.specs.Operations.{Stepped, step, Settlement, settle}
+use Rattle.model.specs.Claim.{Call, call, calls, NoStepStrikes, Holds, ListClaim}
+use Rattle.laws.proofs.Demand.{demand-3}
+use Rattle.cobleskeg.specs.Claims.{callOf, ListHolds}
+
+-- ---- one call
+
+pub settle-call : (r : Reading) (n : ℕ) (T U : List ℕ) → n ≡ 4294967295 → U ≡ leaves (λ (a : Settlement). a .table) (settle r T) T → U ≡ call r (callOf n) T
+unfolding callOf call
+settle-call r n T U e u = rw (eq-eqb n 4294967295 e) u
+
+pub step-call : (r : Reading) (n : ℕ) (T U : List ℕ) → (n ≡ 4294967295 → ⊥) → U ≡ leaves (λ (a : Stepped). a .table) (step r n T) T → U ≡ call r (callOf n) T
+unfolding callOf call
+step-call r n T U e u = rw (ne-eqb n 4294967295 e) u
+
+-- ---- one after the other
+
+calls-append : (r : Reading) (cs ds : List Call) (T : List ℕ) → calls r (cs ++ ds) T ≡ calls r ds (calls r cs T)
+unfolding calls
+calls-append r [] ds T = refl
+calls-append r (c ∷ cs) ds T = calls-append r cs ds (call r c T)
+
+-- the first i calls of the list make U of T
+pub record Called (r : Reading) (ns : List ℕ) (T : List ℕ) (i : ℕ) (U : List ℕ) : Type 0 where
+  pub made : U ≡ calls r (map callOf (take i ns)) T
+
+pub called-none : (r : Reading) (ns T : List ℕ) → Called r ns T 0 T
+unfolding calls
+called-none r ns T = record { made = refl }
+
+pub called-next : (r : Reading) (ns T : List ℕ) (i : ℕ) (U W : List ℕ) → i < length ns → W ≡ call r (callOf (getD ns i 0)) U → Called r ns T i U → Called r ns T (i + 1) W
+unfolding calls
+called-next r ns T i U W h e c = record {
+  made = e ∙ ap (call r (callOf (getD ns i 0))) (c .made) ∙ sym (calls-append r (map callOf (take i ns)) (callOf (getD ns i 0) ∷ []) T)
+      ∙ ap (λ (cs : List Call). calls r cs T) (sym (map-append callOf (take i ns) (getD ns i 0 ∷ [])))
+      ∙ ap (λ (l : List ℕ). calls r (map callOf l) T) (sym (take-suc ns i 0 h) ∙ ap (λ (k : ℕ). take k ns) (sym (add-one i)));
+}
+
+pub called-all : (r : Reading) (ns T : List ℕ) (i : ℕ) (U : List ℕ) → length ns ≤ i → Called r ns T i U → U ≡ calls r (map callOf ns) T
+called-all r ns T i U h c = c .made ∙ ap (λ (l : List ℕ). calls r (map callOf l) T) (take-all i ns h)
+
+-- ---- demand 3 of the list
+
+pub list-holds : (file : List ℕ) → Bytes file → (T : List ℕ) → Words T → (cs : List Call) (U : List ℕ) → U ≡ calls (reading file) cs T → ListHolds file T U
+list-holds file b T w cs U e = record {
+  every-call = λ n s. demand-3 file b .every-call T n s;
+  refusing = λ n s. e ∙ demand-3 file b .refusing T n s cs;
+  kept = λ a i m s α f.
+      let c : ListClaim a T m cs = demand-3 file b .listing a i T w m s cs in
+      subst (λ (W : List ℕ). Holds (a .problem) W α) (sym (made a i)) (c .kept α f);
+  settles = λ a i m s n.
+      let c : ListClaim a T m cs = demand-3 file b .listing a i T w m s cs in
+      made a i ∙ c .settles (subst (λ (W : List ℕ). NoStepStrikes a W) (made a i) n);
+}
+  where
+    made : (a : Accepted) → reading file ≡ answered a → U ≡ calls (answered a) cs T
+    made a i = e ∙ ap (λ r. calls r cs T) i

@@ -1,0 +1,47 @@
+-- Demand 3 of what runs (document 01, "How is demand 3 put?"): the claim on the answer of Search, and on the table that a list of calls leaves. Assumes nothing.
+use mathlib.Core.Path.{_≡_}
+use mathlib.Core.Bool.{true, cond}
+use mathlib.Core.List.{List, _∷_, _++_}
+use Prim.Native.Nat.{ℕ, suc, _*_, _≤_, _<_}
+use lib.Dec.{eqb}
+use lib.ListN.{length}
+use Rattle.model.specs.Constraints.{Choice, width}
+use Rattle.model.specs.Solutions.{Solution, tableOf}
+use Rattle.model.specs.Order.{First}
+use Rattle.model.specs.Tree.{solved, nodes}
+use Rattle.model.specs.Replies.{refused, answered}
+use Rattle.model.specs.Reading.{Accepted, reading}
+use Rattle.model.specs.Operations.{step, Settlement, settle}
+use Rattle.model.specs.Claim.{Call, stepCall, settleCall, NoStepStrikes, Holds, NoneSolved}
+use Rattle.cobleskeg.specs.declared.SearchAnswer.{SearchAnswer}
+use Rattle.cobleskeg.specs.declared.SearchAnswer.the-variants.{Found, None}
+
+-- ---- Search
+
+-- Search on this file with this budget, lent R and A, answers r and leaves U in the answer table
+pub record SearchHolds (file : List ℕ) (budget : ℕ) (R A : List ℕ) (r : SearchAnswer) (U : List ℕ) : Type 0 where
+  -- "finds only the first solution in the stated order"
+  pub first : (a : Accepted) → reading file ≡ answered a → (n : ℕ) → r ≡ Found n → (α : Choice) × First (a .problem) (a .table) α × (U ≡ tableOf (a .problem) α)
+  -- "says none only when there is none"
+  pub empty : (a : Accepted) → reading file ≡ answered a → (n : ℕ) → r ≡ None n → (α : Choice) → Solution (a .problem) (a .table) α → ⊥
+  -- "says found whenever its tree's first solved node lies within the budget"
+  pub near : (a : Accepted) → reading file ≡ answered a → 3 * width (a .problem) ≤ length R → length A ≡ width (a .problem)
+      → (before after : List (List ℕ)) (S : List ℕ) → nodes (a .problem) (a .table) ≡ before ++ S ∷ after → NoneSolved (a .problem) before
+      → solved (a .problem) S ≡ true → length before < budget → (r ≡ Found (suc (length before))) × (U ≡ S)
+
+-- ---- a list of calls
+
+-- the call that a number of a list stands for
+unfoldable pub callOf : ℕ → Call
+callOf n = cond (eqb n 4294967295) settleCall (stepCall n)
+
+-- the calls of a list make U of T
+pub record ListHolds (file T U : List ℕ) : Type 0 where
+  -- "Where the file or the table is itself refused, so is every call, and the claim is that the table after the list is the starting one"
+  pub every-call : (n : ℕ) → settle (reading file) T ≡ refused n → (j : ℕ) → step (reading file) j T ≡ refused n
+  pub refusing : (n : ℕ) → settle (reading file) T ≡ refused n → U ≡ T
+  -- "no bit that a solution within the starting table uses is ever lost"
+  pub kept : (a : Accepted) → reading file ≡ answered a → (m : Settlement) → settle (reading file) T ≡ answered m
+      → (α : Choice) → Solution (a .problem) T α → Holds (a .problem) U α
+  -- "a table on which no step strikes is the very table one Settle leaves"
+  pub settles : (a : Accepted) → reading file ≡ answered a → (m : Settlement) → settle (reading file) T ≡ answered m → NoStepStrikes a U → U ≡ m .table
