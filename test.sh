@@ -16,6 +16,9 @@ trap 'rm -rf "$work"' EXIT
 { rt ci 2>&1; echo $? > "$work/status"; } | tee "$work/log"
 [ "$(cat "$work/status")" = 0 ] || exit 1
 
+# The gate has just left the program in target/bin.
+python3 tests/clash.py || exit 1
+
 # The edits must be refused because a fact fails: the gate has just left a log of each.
 python3 tests/must_fail.py || exit 1
 tail -n 1 "$work/log"

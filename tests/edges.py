@@ -1,11 +1,12 @@
-# The edges of document 01 that concern files: each a file, the words of the table that is lent, and what Read and Unpack answer by the paper.
-# What is expected stands here by hand. `python3 tests/edges.py --write` lays the list out as the standard input and output of the crate `edges`,
-# which the gate runs; without `--write` it checks that both are this list.
+# The edges of document 01: each a call of an entry on a file, with lent buffers, and what it answers and leaves by the paper.
+# What is expected stands here by hand. `python3 tests/edges.py --write` lays the lists out as the standard input and output of the crate `edges`,
+# which the gate runs; without `--write` it checks that both are these lists.
 import sys
 from pathlib import Path
 
 CRATE = Path(__file__).resolve().parent.parent / "crates" / "edges"
-MARK = 7  # in every word of a lent table before the call
+MARK = 7  # in every lent word before the call, where no table is given
+SETTLE = 2**32 - 1  # the call Settle in a list of calls
 
 
 def automaton(k, q, accepting=1, moves=None):
@@ -26,6 +27,35 @@ def file(k=4, s=0, t=0, d=0, c=None, words=None, records=(), machines=b"", spare
     distances = b"".join(n.to_bytes(4, "little") for n in (back or fits))
     counts = bytes([k, s, t, d]) + (len(records) if c is None else c).to_bytes(2, "little") + spare.to_bytes(2, "little")
     return tables + constraints + machines + counts + distances + mark
+
+
+def bits(values):
+    """The word that allows these values."""
+    return sum(1 << v for v in values)
+
+
+def row(lengths, *places):
+    """A string's row as the paper writes it: the lengths, then the symbols from place 1 on. Places not given are empty."""
+    return [bits(lengths)] + [bits(symbols) for symbols in places] + [0] * (63 - len(places))
+
+
+def string(*symbols):
+    """The row of one tidy string."""
+    return row({len(symbols)}, *({a} for a in symbols))
+
+
+def table(rows, numbers=()):
+    return sum(rows, []) + [bits(values) for values in numbers]
+
+
+def problem(k, rows, numbers=(), records=(), machines=()):
+    """A file of this problem."""
+    return file(k, len(rows), len(numbers), len(machines), words=dict(enumerate(table(rows, numbers))), records=records, machines=b"".join(machines))
+
+
+def over(k, s, t, records, machines=()):
+    """A file of these constraints whose own table is empty: Step and Settle look at the lent table alone."""
+    return problem(k, [row(())] * s, [()] * t, records, machines)
 
 
 def largest():
@@ -108,8 +138,188 @@ EDGES = [
 ]
 
 
+NOTHING = row(())
+EMPTY = string()
+
+# ---- Step: (what is tried, file, number of the step, lent table, answer, table afterwards; None where it is untouched)
+
+CAT, LEN = (4, 0, 1, 2), (6, 0, 0, 0)
+PARITY = automaton(2, 2, accepting=1, moves=[1, 0, 0, 1])
+X14, Y14, Z14, N14 = row({1, 2}, {0, 1}, {0, 1}), row({0, 1}, {1}), row({2}, {0}, {0, 1}), {0, 1, 2, 3}
+P14 = problem(2, [X14, Y14, Z14], [N14], [CAT, LEN])
+T14 = table([X14, Y14, Z14], [N14])
+# X is the first two or the first of Z, so it begins with 0
+CAT14 = table([row({1, 2}, {0}, {0, 1}), Y14, Z14], [N14])
+LEN14 = table([X14, Y14, Z14], [{1, 2}])
+SETTLED14 = table([row({1, 2}, {0}, {0, 1}), Y14, Z14], [{1, 2}])
+SOLVED14 = table([string(0), string(1), string(0, 1)], [{1}])
+
+P2X, P2Y = row({2, 3}, {1, 2, 3}, {3}, {1, 2, 3}), row({1, 2, 3}, {1, 2}, {1, 2}, {1, 2})
+FULL63 = row({63}, *[{0}] * 63)
+HOLE63 = row({63}, *[{0}] * 39, (), *[{0}] * 23)
+PLAIN = over(4, 1, 1, [])
+MARKS = [MARK] * 65
+
+STEPS = [
+    ("P14, step 0: Cat", P14, 0, T14, "struck 1", CAT14),
+    ("P14, step 1: Len", P14, 1, T14, "struck 2", LEN14),
+    ("P14, step 2: X is tidy", P14, 2, T14, "struck 0", None),
+    ("P14, step 3: Y is tidy", P14, 3, T14, "struck 0", None),
+    ("P14, step 4: Z is tidy", P14, 4, T14, "struck 0", None),
+    ("P14, step 5 is none", P14, 5, T14, "refused 11", None),
+    ("P14, the greatest number is no step", P14, 2**32 - 1, T14, "refused 11", None),
+    ("P1 Trim", over(4, 1, 0, []), 0, row({1, 2}, {0}), "struck 1", row({1}, {0})),
+    ("P2 Eq", over(4, 2, 0, [EQ]), 0, table([P2X, P2Y]), "struck 18", table([NOTHING, NOTHING])),
+    ("P3 Eq", over(4, 2, 0, [EQ]), 0, table([row({0, 2}, {0}, {1}), row({0, 1, 2}, {0}, {2})]), "struck 7", table([EMPTY, EMPTY])),
+    ("P4 Neq", over(4, 2, 0, [(2, 0, 1, 0)]), 0, table([row({1}, {0, 1}), string(0)]), "struck 1", table([string(1), string(0)])),
+    ("P5 Neq", over(4, 2, 0, [(2, 0, 1, 0)]), 0, table([row({0, 1}, {0}), EMPTY]), "struck 1", table([string(0), EMPTY])),
+    ("P6 Neq", over(4, 2, 0, [(2, 0, 1, 0)]), 0, table([string(0), string(0)]), "struck 4", table([NOTHING, NOTHING])),
+    ("P7 Rev", over(4, 2, 0, [(3, 0, 1, 0)]), 0, table([row({2}, {0}, {0, 1}), row({2}, {1, 2}, {0, 2})]), "struck 3", table([string(0, 1), string(1, 0)])),
+    ("P8 Cat", over(4, 3, 0, [CAT]), 0, table([string(0), EMPTY, string(0)]), "struck 0", None),
+    ("P9 Cat", over(4, 3, 0, [CAT]), 0, table([row({0, 1}, {0}), row({0, 1}, {1}), row({1}, {1})]), "struck 3", table([EMPTY, string(1), string(1)])),
+    ("P10 Sub", over(4, 2, 1, [(5, 0, 1, 0)]), 0, table([string(0, 1), string(1)], [{0, 1, 2, 3}]), "struck 3", table([string(0, 1), string(1)], [{2}])),
+    ("P11 Sub", over(4, 2, 1, [(5, 0, 1, 0)]), 0, table([EMPTY, EMPTY], [{1}]), "struck 3", table([NOTHING, NOTHING], [()])),
+    ("P12 Len", over(4, 1, 1, [LEN]), 0, table([row({0, 3}, {0}, {0}, {0})], [{1, 3}]), "struck 2", table([string(0, 0, 0)], [{3}])),
+    ("P13 Regular", over(2, 1, 0, [(7, 0, 0, 0)], [PARITY]), 0, row({1, 2}, {0}, {0, 1}), "struck 2", string(0, 0)),
+    ("a string of 63 places", over(1, 1, 0, []), 0, FULL63, "struck 0", None),
+    ("a string of 63 places with nothing at place 40", over(1, 1, 0, []), 0, HOLE63, "struck 63", NOTHING),
+    ("lengths past the places", over(1, 1, 0, []), 0, row({0, 2, 5, 63}, {0}, {0}), "struck 2", row({0, 2}, {0}, {0})),
+    ("symbols past the longest string", over(4, 1, 0, []), 0, row({1}, {0, 3}, {1, 2}, {3}), "struck 3", row({1}, {0, 3})),
+    ("lengths and numbers up to 63 with k 1", over(1, 1, 1, [LEN]), 0, table([row({0, 63})], [{0, 63}]), "struck 2", table([EMPTY], [{0}])),
+    ("k 64 and symbol 63", over(64, 1, 0, []), 0, row({1}, {63}, {63}), "struck 1", string(63)),
+    ("a lent table a word short", PLAIN, 0, MARKS[1:], "refused 9", None),
+    ("a lent table a word long", PLAIN, 0, MARKS + [MARK], "refused 9", None),
+    ("the size is looked at before the symbols and the number", PLAIN, 1, [16] * 64, "refused 9", None),
+    ("a bit at k in a lent symbol word", PLAIN, 0, table([row({1}, {0, 4})], [()]), "refused 10", None),
+    ("a bit at 63 in the last lent symbol word", PLAIN, 0, table([row({1}, *[()] * 62, {63})], [()]), "refused 10", None),
+    ("a bit at k in the second string's first symbol word", over(4, 2, 0, []), 0, table([EMPTY, row({1}, {4})]), "refused 10", None),
+    ("the lent symbols are looked at before the number", PLAIN, 99, table([row({1}, {4})], [()]), "refused 10", None),
+    ("a number equal to c + s", PLAIN, 1, MARKS, "refused 11", None),
+    ("no step at all", file(), 0, [], "refused 11", None),
+]
+
+# ---- Settle: (what is tried, file, lent table, rounds and whether every variable has a value, table afterwards; None where it is untouched)
+
+TWO_LENS = over(4, 2, 1, [EQ, (6, 1, 0, 0)])
+
+SETTLES = [
+    ("s, t, c, d all 0", file(), [], "rounds 1 true", None),
+    ("P14", P14, T14, "rounds 2 true", SETTLED14),
+    ("P14, settled", P14, SETTLED14, "rounds 1 true", None),
+    ("P14, solved", P14, SOLVED14, "rounds 1 true", None),
+    ("P2's rows: both empty", over(4, 2, 0, [EQ]), table([P2X, P2Y]), "rounds 2 false", table([NOTHING, NOTHING])),
+    # round 1: Len leaves X the length 2, Eq empties X and Y; round 2: Len takes the number; round 3 strikes nothing
+    ("it goes on after P2's rows are empty", over(4, 2, 1, [LEN, EQ]), table([P2X, P2Y], [{2}]), "rounds 3 false", table([NOTHING, NOTHING], [()])),
+    # round 1: Len leaves Y the length 1; round 2: Eq tells X; round 3 strikes nothing
+    ("what a later constraint strikes comes back", TWO_LENS, table([row({1, 2}, {0}, {0})] * 2, [{1}]), "rounds 3 true", table([string(0)] * 2, [{1}])),
+    ("symbols past the longest string", over(4, 1, 0, []), row({0}, {1}), "rounds 2 true", EMPTY),
+    ("a string with no length", over(4, 1, 0, []), row((), {1}), "rounds 2 false", NOTHING),
+    ("a number with no value", over(4, 0, 2, []), table([], [{5}, ()]), "rounds 1 false", None),
+    ("a string of 63 places", over(1, 1, 0, []), FULL63, "rounds 1 true", None),
+    ("a lent table a word short", PLAIN, MARKS[1:], "refused 9", None),
+    ("a lent table a word long", PLAIN, MARKS + [MARK], "refused 9", None),
+    ("the size is looked at before the symbols", PLAIN, [16] * 66, "refused 9", None),
+    ("a bit at k in a lent symbol word", PLAIN, table([row({1}, {4})], [()]), "refused 10", None),
+    ("bits at k and above in a lent length and number word", PLAIN, table([row({0, 63})], [{4, 63}]), "rounds 2 true", table([EMPTY], [{4, 63}])),
+]
+
+# ---- lists of calls: (what is tried, file, calls, lent table, table afterwards; None where it is untouched)
+
+LISTS = [
+    ("no call", P14, [], T14, None),
+    ("one step", P14, [0], T14, CAT14),
+    ("two steps", P14, [1, 0], T14, SETTLED14),
+    ("Settle", P14, [SETTLE], T14, SETTLED14),
+    ("a refused call between two steps", P14, [1, 5, 0], T14, SETTLED14),
+    ("refused calls only", P14, [5, SETTLE - 1], T14, None),
+    ("Settle, and steps that find nothing to strike", P14, [SETTLE, 0, 1, 2, 3, 4, SETTLE], T14, SETTLED14),
+    ("a lent table a word short", PLAIN, [0, SETTLE], MARKS[1:], None),
+    ("a bit at k in a lent symbol word", PLAIN, [0, SETTLE], table([row({1}, {4})], [()]), None),
+]
+
+# ---- Search: (what is tried, file, budget, words of room, words of the answer table, answer, answer table afterwards; None where it is untouched)
+
+NEQ = [(2, x, y, 0) for x in range(4) for y in range(x + 1, 4)]
+# Four strings of one symbol of three, no two the same. The root strikes nothing. Each of the 3 children for string 0 leaves the others two symbols, and each
+# of its 2 children for string 1 leaves strings 2 and 3 the same symbol: dead. 1 + 3 + 6 nodes.
+PIGEONS = problem(3, [row({1}, {0, 1, 2})] * 4, records=NEQ)
+# With 0 for string 0, strings 1 and 2 are both left 2: dead. With 1 nothing is struck; then 0 for string 1 leaves 2 for string 2: the fourth node.
+SECOND = problem(3, [row({1}, {0, 1}), row({1}, {0, 2}), row({1}, {0, 2})], records=[(2, 0, 1, 0), (2, 0, 2, 0), (2, 1, 2, 0)])
+# The string's length 0 first, then the number's value 5.
+FREE = problem(2, [row({0, 1}, {0, 1})], [{5, 6}])
+
+SEARCHES = [
+    ("s, t, c, d all 0", file(), 1, 0, 0, "found 1", []),
+    ("s, t, c, d all 0, budget 0", file(), 0, 2, 0, "spent 0", None),
+    ("P14, budget 0", P14, 0, 579, 193, "spent 0", None),
+    ("P14, budget 1", P14, 1, 579, 193, "spent 1", None),
+    ("P14, budget 2", P14, 2, 579, 193, "found 2", SOLVED14),
+    ("P14, budget 3", P14, 3, 579, 193, "found 2", SOLVED14),
+    ("P14, the greatest budget", P14, 2**32 - 1, 579, 193, "found 2", SOLVED14),
+    ("P14, room for more", P14, 2, 600, 193, "found 2", SOLVED14),
+    ("P14, room for more and budget 1", P14, 1, 600, 193, "spent 1", None),
+    ("P14, room a word short", P14, 2, 578, 193, "refused 12", None),
+    ("P14, an answer table a word short", P14, 2, 579, 192, "refused 13", None),
+    ("P14, an answer table a word long", P14, 2, 579, 194, "refused 13", None),
+    ("P14, the room is looked at before the answer table", P14, 0, 578, 192, "refused 12", None),
+    ("no solution: budget for the whole tree", PIGEONS, 10, 768, 256, "none 10", None),
+    ("no solution: budget for all but one node", PIGEONS, 9, 768, 256, "spent 9", None),
+    ("no solution: more budget, more room", PIGEONS, 65536, 770, 256, "none 10", None),
+    ("no solution at the root", problem(4, [string(0)] * 2, records=[(2, 0, 1, 0)]), 1, 384, 128, "none 1", None),
+    ("no solution at the root, budget 0", problem(4, [string(0)] * 2, records=[(2, 0, 1, 0)]), 0, 384, 128, "spent 0", None),
+    ("a string that stands for nothing", problem(4, [row({2}, {0})]), 1, 192, 64, "none 1", None),
+    ("the first child is dead", SECOND, 4, 576, 192, "found 4", table([string(1), string(0), string(2)])),
+    ("the first child is dead, a node short", SECOND, 3, 576, 192, "spent 3", None),
+    ("a string before a number", FREE, 3, 195, 65, "found 3", table([EMPTY], [{5}])),
+    ("a string before a number, a node short", FREE, 2, 195, 65, "spent 2", None),
+    ("the lower value of a number", problem(1, [], [{3}, {63, 9}]), 2, 6, 2, "found 2", table([], [{3}, {9}])),
+    ("a string of 63 places", problem(1, [FULL63]), 1, 192, 64, "found 1", FULL63),
+    ("a string of 62 or 63 places", problem(1, [row({62, 63}, *[{0}] * 63)]), 2, 192, 64, "found 2", string(*[0] * 62)),
+    ("a length 63 past the places", problem(1, [row({2, 63}, {0}, {0}, (), {0})]), 1, 192, 64, "found 1", string(0, 0)),
+    ("k 64 and symbol 63", problem(64, [row({1}, {62, 63})], records=[]), 2, 192, 64, "found 2", string(62)),
+]
+
+# ---- refusals 1 to 8 come first: the lent table and the room have the wrong size for each of these files, and there is no such step
+
+REFUSED = {
+    1: file()[1:],
+    2: file(s=1, mark=b"TAIM"),
+    3: file(s=1, k=65),
+    4: b"\0" + file(s=1),
+    5: file(s=1, machines=b"\0"),
+    6: file(s=1, words={1: 16}),
+    7: file(s=2, records=[(0, 0, 0, 0)]),
+    8: file(s=2, records=[(1, 1, 1, 0)]),
+}
+STEPS += [(f"refusal {n} comes first", content, 99, [MARK], f"refused {n}", None) for n, content in REFUSED.items()]
+SETTLES += [(f"refusal {n} comes first", content, [MARK], f"refused {n}", None) for n, content in REFUSED.items()]
+LISTS += [(f"a file with refusal {n}", content, [0, SETTLE], [MARK], None) for n, content in REFUSED.items()]
+SEARCHES += [(f"refusal {n} comes first", content, 1, 1, 1, f"refused {n}", None) for n, content in REFUSED.items()]
+
+
+def two(n):
+    return n.to_bytes(2, "little")
+
+
+def four(n):
+    return n.to_bytes(4, "little")
+
+
+def laid(operation, content, lent, room=0, fill=MARK, argument=0, changes=(), calls=()):
+    """A case as crates/edges/src/main.rt reads it."""
+    numbers = two(operation) + two(lent) + two(room) + two(fill) + four(argument) + two(len(changes)) + two(len(calls)) + two(len(content))
+    words = b"".join(two(place) + word.to_bytes(8, "little") for place, word in changes)
+    return numbers + words + b"".join(four(call) for call in calls) + content
+
+
 def case(content, lent):
-    return len(content).to_bytes(2, "little") + lent.to_bytes(2, "little") + content
+    """Read and Unpack."""
+    return laid(0, content, lent)
+
+
+def on_table(operation, content, words, argument=0, calls=()):
+    """A call on a lent table."""
+    return laid(operation, content, len(words), fill=0, argument=argument, changes=[(i, w) for i, w in enumerate(words) if w], calls=calls)
 
 
 def answer(a):
@@ -118,11 +328,46 @@ def answer(a):
     return a if isinstance(a, str) else " ".join(str(n) for n in a)
 
 
+def words(buffer):
+    """A buffer as the program prints it: a run of n equal words is the word, `x` and n."""
+    printed, i = "", 0
+    while i < len(buffer):
+        n = next((j for j in range(i, len(buffer)) if buffer[j] != buffer[i]), len(buffer)) - i
+        printed += f" {buffer[i]}" + (f"x{n}" if n > 1 else "")
+        i += n
+    return printed
+
+
+def left(before, after):
+    return " left" + words(before if after is None else after)
+
+
+def room_after(content, room, answered):
+    """A refusal leaves the room; else three tables of it are 0."""
+    s, t = (content[-23], content[-22]) if len(content) >= 24 else (0, 0)
+    cleared = 0 if answered.startswith("refused") else 3 * (64 * s + t)
+    return [0] * cleared + [MARK] * (room - cleared)
+
+
 def listing():
     """The program's standard input, and what it must print."""
-    given = b"".join(case(content, lent) for _, content, lent, _, _, _ in EDGES)
-    printed = "".join(f"read {answer(read)} unpack {answer(unpack)} left {left}\n" for _, _, _, read, unpack, left in EDGES)
-    return given, printed.encode()
+    given, printed = [], []
+    for _, content, lent, read, unpack, total in EDGES:
+        given.append(case(content, lent))
+        printed.append(f"read {answer(read)} unpack {answer(unpack)} left {total}")
+    for _, content, j, lent, answered, after in STEPS:
+        given.append(on_table(1, content, lent, argument=j))
+        printed.append(f"step {answered}" + left(lent, after))
+    for _, content, lent, answered, after in SETTLES:
+        given.append(on_table(2, content, lent))
+        printed.append(f"settle {answered}" + left(lent, after))
+    for _, content, budget, room, lent, answered, solution in SEARCHES:
+        given.append(laid(3, content, lent, room=room, argument=budget))
+        printed.append(f"search {answered} room" + words(room_after(content, room, answered)) + left([MARK] * lent, solution))
+    for _, content, calls, lent, after in LISTS:
+        given.append(on_table(4, content, lent, calls=calls))
+        printed.append("perform" + left(lent, after))
+    return b"".join(given), "".join(line + "\n" for line in printed).encode()
 
 
 def main():
@@ -132,9 +377,10 @@ def main():
             path.write_bytes(content)
     wrong = [path.name for path, content in pairs if not path.is_file() or path.read_bytes() != content]
     for name in wrong:
-        print(f"edges: crates/edges/{name} is not the list of tests/edges.py")
+        print(f"edges: crates/edges/{name} is not the lists of tests/edges.py")
     if not wrong:
-        print(f"edges: {len(EDGES)} edges of files stand in crates/edges")
+        counts = ((EDGES, "files"), (STEPS, "steps"), (SETTLES, "settlings"), (SEARCHES, "searches"), (LISTS, "lists of calls"))
+        print("edges: " + ", ".join(f"{len(cases)} {name}" for cases, name in counts) + " stand in crates/edges")
     return 1 if wrong else 0
 
 

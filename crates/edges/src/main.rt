@@ -1,34 +1,82 @@
-// Runs Read and Unpack on the files of standard input and prints what they answer: tests/edges.py lists the files and what the paper says of each.
+// Runs the entries on the cases of standard input and prints what they answer and leave: tests/edges.py lists the cases and what the paper says of each.
 //
-// Standard input holds one case after another: two bytes that say how long the file is, two that say how many words are lent, and the file. Every lent word
-// holds 7 before the call, and the sum of the words afterwards is printed: a refusal leaves them.
+// Standard input holds one case after another. A case is 18 bytes of numbers, the words of the lent table that differ from the fill (2 bytes of place and 8 of
+// word), the calls of a list (4 bytes each) and the file:
+//
+//     at 0    the operation: 0 Read and Unpack, 1 Step, 2 Settle, 3 Search, 4 a list of calls
+//     at 2    how many words of a table are lent
+//     at 4    how many words of room are lent
+//     at 6    the fill: what every lent word holds before the call
+//     at 8    the number of a step, or the budget (4 bytes)
+//     at 12   how many words differ from the fill
+//     at 14   how many calls the list has
+//     at 16   how many bytes the file has
 use libc::STDIN_FILENO;
 use libc::STDOUT_FILENO;
-ghost use Prim.Native.Nat.{_≤_};
+ghost use Prim.Native.Nat.{_+_, _*_, _≤_, _<_};
 ghost use lib.ListN.{length};
+ghost use Rattle.io.specs.Counts.{Counts};
+
+// The numbers of a case.
+struct Case {
+    operation: usize,
+    lent: usize,
+    room: usize,
+    fill: u64,
+    argument: u32,
+    changes: usize,
+    calls: usize,
+    size: usize,
+}
+
+fn print(text: &[u8]) {
+    io::write_all(STDOUT_FILENO, text);
+}
 
 fn print_number(n: u64) {
-    io::write_all(STDOUT_FILENO, b" ");
+    print(b" ");
     io::print_decimal(STDOUT_FILENO, n);
 }
 
 fn print_refused(n: u8) {
-    io::write_all(STDOUT_FILENO, b" refused");
+    print(b" refused");
     print_number(n as u64);
 }
 
-fn print_read(file: &[u8]) {
-    io::write_all(STDOUT_FILENO, b"read");
-    match cobleskeg::read(file) {
-        cobleskeg::ReadAnswer::Refused(n) => print_refused(n),
-        cobleskeg::ReadAnswer::Counts(h) => {
-            print_number(h.symbols as u64);
-            print_number(h.strings as u64);
-            print_number(h.numbers as u64);
-            print_number(h.automata as u64);
-            print_number(h.constraints as u64);
+// The end of the run of equal words that begins here.
+fn run_end(words: &[u64], from: usize) -> usize
+    requires { ⌜ from < length (now words) ⌝ }
+    ensures { λ r. ⌜ (from < r) × (r ≤ length (now (words .entry))) ⌝ }
+{
+    let mut i = from + 1;
+    while i < words.len() {
+        if words[i] != words[from] {
+            return i;
         }
+        i += 1;
     }
+    i
+}
+
+// Every word, a run of n equal ones as one word, `x` and n.
+fn print_words(words: &[u64]) {
+    let mut i: usize = 0;
+    while i < words.len() {
+        let end = run_end(words, i);
+        print_number(words[i]);
+        if end - i > 1 {
+            print(b"x");
+            io::print_decimal(STDOUT_FILENO, (end - i) as u64);
+        }
+        i = end;
+    }
+}
+
+// The end of a line: what the call left in the table.
+fn print_left(table: &[u64]) {
+    print(b" left");
+    print_words(table);
+    print(b"\n");
 }
 
 fn sum(table: &[u64]) -> u64 {
@@ -41,47 +89,211 @@ fn sum(table: &[u64]) -> u64 {
     total
 }
 
-fn print_unpack(file: &[u8], table: &mut [u64]) {
-    io::write_all(STDOUT_FILENO, b" unpack");
-    match cobleskeg::unpack(file, table) {
-        cobleskeg::UnpackAnswer::Refused(n) => print_refused(n),
-        cobleskeg::UnpackAnswer::Unpacked => {
-            io::write_all(STDOUT_FILENO, b" done");
+fn print_read(file: &[u8]) {
+    print(b"read");
+    match cobleskeg::read(file) {
+        cobleskeg::ReadAnswer::Refused(n) => print_refused(n),
+        cobleskeg::ReadAnswer::Counts(h) => {
+            print_number(h.symbols as u64);
+            print_number(h.strings as u64);
+            print_number(h.numbers as u64);
+            print_number(h.automata as u64);
+            print_number(h.constraints as u64);
         }
     }
-    io::write_all(STDOUT_FILENO, b" left");
+}
+
+fn print_unpack(file: &[u8], table: &mut [u64]) {
+    print(b" unpack");
+    match cobleskeg::unpack(file, table) {
+        cobleskeg::UnpackAnswer::Refused(n) => print_refused(n),
+        cobleskeg::UnpackAnswer::Unpacked => print(b" done"),
+    }
+    print(b" left");
     print_number(sum(table));
-    io::write_all(STDOUT_FILENO, b"\n");
+    print(b"\n");
 }
 
-// Lends the first words of a table.
-fn lend(file: &[u8], table: &mut [u64], lent: usize)
-    requires { ⌜ lent ≤ length (now table) ⌝ }
+fn print_step(file: &[u8], j: usize, table: &mut [u64]) {
+    print(b"step");
+    match cobleskeg::step(file, j, table) {
+        cobleskeg::StepAnswer::Refused(n) => print_refused(n),
+        cobleskeg::StepAnswer::Struck(n) => {
+            print(b" struck");
+            print_number(n as u64);
+        }
+    }
+    print_left(table);
+}
+
+fn print_settle(file: &[u8], table: &mut [u64]) {
+    print(b"settle");
+    match cobleskeg::settle(file, table) {
+        cobleskeg::SettleAnswer::Refused(n) => print_refused(n),
+        cobleskeg::SettleAnswer::Settled(r) => {
+            print(b" rounds");
+            print_number(r.count as u64);
+            if r.every_value {
+                print(b" true");
+            } else {
+                print(b" false");
+            }
+        }
+    }
+    print_left(table);
+}
+
+fn print_search(file: &[u8], budget: u32, room: &mut [u64], table: &mut [u64]) {
+    print(b"search");
+    match cobleskeg::search(file, budget, room, table) {
+        cobleskeg::SearchAnswer::Refused(n) => print_refused(n),
+        cobleskeg::SearchAnswer::Found(n) => {
+            print(b" found");
+            print_number(n as u64);
+        }
+        cobleskeg::SearchAnswer::None(n) => {
+            print(b" none");
+            print_number(n as u64);
+        }
+        cobleskeg::SearchAnswer::Spent(n) => {
+            print(b" spent");
+            print_number(n as u64);
+        }
+    }
+    print(b" room");
+    print_words(room);
+    print_left(table);
+}
+
+// Puts the calls at the start of the list, and answers how many it took.
+fn take_calls(bytes: &[u8], list: &mut [u32]) -> usize
+    ensures { λ r. ⌜ Counts r (now (list .exit)) ⌝ }
 {
-    print_unpack(file, &mut table[..lent]);
+    let mut i: usize = 0;
+    while i < list.len() {
+        if 4 * i + 4 > bytes.len() {
+            return i;
+        }
+        list[i] = little::four(bytes, 4 * i);
+        i += 1;
+    }
+    i
 }
 
-// One line for a file and so many lent words; none where more are asked for than there are.
-fn report(file: &[u8], lent: usize) {
-    let mut table = [7u64; 2048];
-    if lent <= 2048 {
-        print_read(file);
-        lend(file, &mut table, lent);
+fn print_perform(file: &[u8], calls: &[u8], table: &mut [u64]) {
+    let mut list = [0u32; 8];
+    let n = take_calls(calls, &mut list);
+    cobleskeg::perform(file, &list[..n], table);
+    print(b"perform");
+    print_left(table);
+}
+
+// One line for a case.
+fn report(
+    operation: usize,
+    argument: u32,
+    calls: &[u8],
+    file: &[u8],
+    room: &mut [u64],
+    table: &mut [u64],
+) {
+    match operation {
+        0 => {
+            print_read(file);
+            print_unpack(file, table);
+        }
+        1 => print_step(file, argument as usize, table),
+        2 => print_settle(file, table),
+        3 => print_search(file, argument, room, table),
+        _ => print_perform(file, calls, table),
+    }
+}
+
+// Writes a word; a place outside the table is passed over.
+fn put(table: &mut [u64], place: usize, word: u64) {
+    if place < table.len() {
+        table[place] = word;
+    }
+}
+
+// Writes the words that differ from the fill.
+fn change(table: &mut [u64], changes: &[u8]) {
+    let mut at: usize = 0;
+    while at + 10 <= changes.len() {
+        let place = little::two(changes, at) as usize;
+        put(table, place, little::eight(changes, at + 2));
+        at += 10;
+    }
+}
+
+// Lends the first words of the room and of the table.
+fn lend(c: Case, calls: &[u8], file: &[u8], room: &mut [u64], table: &mut [u64])
+    requires { ⌜ (c .room ≤ length (now room)) × (c .lent ≤ length (now table)) ⌝ }
+{
+    let words = c.room;
+    let lent = c.lent;
+    report(
+        c.operation,
+        c.argument,
+        calls,
+        file,
+        &mut room[..words],
+        &mut table[..lent],
+    );
+}
+
+// Nothing is printed where more words are asked for than there are.
+fn run(c: Case, changes: &[u8], calls: &[u8], file: &[u8]) {
+    let fill = c.fill;
+    let mut table = [fill; 2048];
+    let mut room = [fill; 4096];
+    change(&mut table, changes);
+    if c.lent <= 2048 {
+        if c.room <= 4096 {
+            lend(c, calls, file, &mut room, &mut table);
+        }
+    }
+}
+
+fn case_at(input: &[u8], at: usize) -> Case
+    requires { ⌜ at + 18 ≤ length (now input) ⌝ }
+    ensures { λ r. ⌜ (r .changes < 65536) × (r .calls < 65536) × (r .size < 65536) ⌝ }
+{
+    Case {
+        operation: little::two(input, at) as usize,
+        lent: little::two(input, at + 2) as usize,
+        room: little::two(input, at + 4) as usize,
+        fill: little::two(input, at + 6) as u64,
+        argument: little::four(input, at + 8),
+        changes: little::two(input, at + 12) as usize,
+        calls: little::two(input, at + 14) as usize,
+        size: little::two(input, at + 16) as usize,
+    }
+}
+
+fn run_all(input: &[u8]) {
+    let mut at: usize = 0;
+    while at + 18 <= input.len() {
+        let c = case_at(input, at);
+        let changes = at + 18;
+        let calls = changes + 10 * c.changes;
+        let file = calls + 4 * c.calls;
+        let end = file + c.size;
+        if end > input.len() {
+            return;
+        }
+        run(
+            c,
+            &input[changes..calls],
+            &input[calls..file],
+            &input[file..end],
+        );
+        at = end;
     }
 }
 
 fn main() {
-    let mut input = [0u8; 131072];
+    let mut input = [0u8; 262144];
     let n = io::read_full(STDIN_FILENO, &mut input);
-    let mut at: usize = 0;
-    while at + 4 <= n {
-        let size = little::two(&input, at) as usize;
-        let lent = little::two(&input, at + 2) as usize;
-        at += 4;
-        if size > n - at {
-            return;
-        }
-        report(&input[at..at + size], lent);
-        at += size;
-    }
+    run_all(&input[..n]);
 }
