@@ -5,6 +5,7 @@ cd "$(dirname "$0")" || exit 1
 
 python3 tests/documents.py || exit 1
 python3 tests/edges.py || exit 1
+python3 tests/nodes.py || exit 1
 
 # One job more than there are processors, since a job also waits; at most 4, for memory.
 jobs=$(($(getconf _NPROCESSORS_ONLN) + 1))

@@ -1,0 +1,57 @@
+# Searches that the gate runs by the crate `nodes`: each a problem of bench/problems.py, how often it is searched before the search that is printed, a budget,
+# and how that search ends. `python3 tests/nodes.py --write` lays the list out as the crate's standard input and output; without `--write` it checks that both
+# are this list. What is found or not, and the counts of pigeons and of P14, stand here by hand; the other counts were matched against a second solver.
+import sys
+from pathlib import Path
+
+ROOT = Path(__file__).resolve().parent.parent
+CRATE = ROOT / "crates" / "nodes"
+sys.path.insert(0, str(ROOT / "bench"))
+from problems import Problem, checked, clash, codes, no_clash, pigeons
+from search import BUDGET, case
+
+
+def p14():
+    """P14 of document 01."""
+    p = Problem("01")
+    x, y, z, n = p.string([1, 2]), p.string([0, 1], "1"), p.string([2]), p.number(range(4))
+    p.rows[z][1] = p.word("0")
+    p.cat(x, y, z)
+    p.len(x, n)
+    return p
+
+
+CASES = [
+    (p14(), 0, BUDGET, "found 2"),
+    (p14(), 3, 2, "found 2"),
+    (p14(), 3, 1, "spent 1"),
+    (p14(), 1, 0, "spent 0"),
+    (clash(), 1, BUDGET, "found 12"),
+    (no_clash(), 1, BUDGET, "none 7"),
+    (checked(), 0, 200, "spent 200"),
+    (pigeons(5, 4), 1, 1 + 4 + 12 + 24, "none 41"),
+    (pigeons(5, 4), 1, 40, "spent 40"),
+    (codes(9), 0, BUDGET, "none 39"),
+]
+
+
+def listing():
+    """The program's standard input, and what it must print; a file of no byte is refused at the end."""
+    given = b"".join(case(problem.file(), times, budget) for problem, times, budget, _ in CASES)
+    return given + case(b"", 0, BUDGET), "".join(line + "\n" for *_, line in CASES).encode() + b"refused 1\n"
+
+
+def main():
+    pairs = list(zip((CRATE / "stdin", CRATE / "stdout"), listing()))
+    if "--write" in sys.argv:
+        for path, content in pairs:
+            path.write_bytes(content)
+    wrong = [path.name for path, content in pairs if not path.is_file() or path.read_bytes() != content]
+    for name in wrong:
+        print(f"nodes: crates/nodes/{name} is not the list of tests/nodes.py")
+    if not wrong:
+        print(f"nodes: {len(CASES) + 1} searches stand in crates/nodes")
+    return 1 if wrong else 0
+
+
+sys.exit(main())
