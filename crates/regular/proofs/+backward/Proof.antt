@@ -5,6 +5,7 @@ use mathlib.Core.Path.{refl, sym, _∙_}
 use Rattle.rows.proofs.Fill.{array-words}
 use Rattle.automata.specs.Machine.{stateCount, machine}
 use Rattle.automata.proofs.MachineLaws.{machine-accepting}
+use Rattle.automata.proofs.SetLaws.{gathered-empty, no-bit}
 use Rattle.regular.proofs.StateLaws.{machine-suited, backward-last, backward-next}
 use borrow.Fn.Kinds.{In}
 use borrow.Fn.PlainCycle.{Measures, is, falls, and}
@@ -12,8 +13,8 @@ use Rattle.regular.proofs.backward.Reads as backward
 use Rattle.regular.proofs.backward.Kinds as backward-kinds
 use Rattle.regular.proofs.+backward.Lts-backward as backward-lts
 use Rattle.automata.proofs.accepting.Reads as accepting-reads
-use Rattle.automata.proofs.predecessors.Reads as predecessors-reads
 use Rattle.regular.proofs.ending.Reads as ending-reads
+use Rattle.regular.proofs.predecessors.Reads as predecessors-reads
 use Rattle.regular.proofs.+backward.{statement}
 use Rattle.regular.proofs.+backward.Tie.{close}
 
@@ -75,7 +76,7 @@ backward-ending-requires : (t : ℕ) → backward-lts.Need-ending-requires (
 ) (backward-at t) backward.Post
 backward-ending-requires t c κs = search needs
 
-backward-array-write-last : (t : ℕ) → backward-lts.Need-array-write-last (
+backward-array-write-sets : (t : ℕ) → backward-lts.Need-array-write-sets (
   accepting-reads.Asked,
   accepting-reads.Learnt,
   ending-reads.Asked,
@@ -85,7 +86,7 @@ backward-array-write-last : (t : ℕ) → backward-lts.Need-array-write-last (
   predecessors-reads.Asked,
   predecessors-reads.Learnt,
 ) (backward-at t) backward.Post
-backward-array-write-last t c = search needs
+backward-array-write-sets t c = search needs
 
 backward-returns : (t : ℕ) → backward-lts.Need-returns (
   accepting-reads.Asked,
@@ -102,8 +103,11 @@ backward-returns t c =
     let x = s .args .t3 in
     let d = s .args .d .now in
     let k = s .args .k in
-    let fit = machine-suited k d x (s .pre .1 .1) (s .pre .1 .2) (search needs) (array-words x (λ i. search needs)) in
-    backward-last (machine k d) (stateCount d) k x fit (s .args .r) (c .before .before .accepting .result) _ _ (c .if1 .taken) (c .before .before .accepting .ensures ∙ sym (machine-accepting k d)) (c .before .ending .ensures) refl
+    let fit = machine-suited k d x (s .pre .1 .1) (s .pre .1 .2) (search needs) (array-words x (λ i. search needs)) in (
+      backward-last (machine k d) (stateCount d) k x fit (s .args .r) (c .before .before .accepting .result) _ _ (c .if1 .taken)
+          (c .before .before .accepting .ensures ∙ sym (machine-accepting k d)) (c .before .ending .ensures) refl,
+      gathered-empty _ _ (λ i t x. no-bit _ i refl (x .0)),
+    )
 
 backward-sub-backward : (t : ℕ) → backward-lts.Need-sub-backward (
   accepting-reads.Asked,
@@ -131,7 +135,7 @@ backward-backward-requires t c κs =
     let s = c .before .before .before .before in
     (omega arith, (s .pre .1 .0, s .pre .1 .1, s .pre .1 .2, omega arith))
 
-backward-add-predecessors : (t : ℕ) → backward-lts.Need-add-predecessors (
+backward-add-set : (t : ℕ) → backward-lts.Need-add-set (
   accepting-reads.Asked,
   accepting-reads.Learnt,
   ending-reads.Asked,
@@ -141,9 +145,9 @@ backward-add-predecessors : (t : ℕ) → backward-lts.Need-add-predecessors (
   predecessors-reads.Asked,
   predecessors-reads.Learnt,
 ) (backward-at t) backward.Post
-backward-add-predecessors t c = search needs
+backward-add-set t c = search needs
 
-backward-mul-predecessors : (t : ℕ) → backward-lts.Need-mul-predecessors (
+backward-mul-set : (t : ℕ) → backward-lts.Need-mul-set (
   accepting-reads.Asked,
   accepting-reads.Learnt,
   ending-reads.Asked,
@@ -153,9 +157,9 @@ backward-mul-predecessors : (t : ℕ) → backward-lts.Need-mul-predecessors (
   predecessors-reads.Asked,
   predecessors-reads.Learnt,
 ) (backward-at t) backward.Post
-backward-mul-predecessors t c = search needs
+backward-mul-set t c = search needs
 
-backward-array-read-predecessors : (t : ℕ) → backward-lts.Need-array-read-predecessors (
+backward-element-copy-out-set : (t : ℕ) → backward-lts.Need-element-copy-out-set (
   accepting-reads.Asked,
   accepting-reads.Learnt,
   ending-reads.Asked,
@@ -165,9 +169,9 @@ backward-array-read-predecessors : (t : ℕ) → backward-lts.Need-array-read-pr
   predecessors-reads.Asked,
   predecessors-reads.Learnt,
 ) (backward-at t) backward.Post
-backward-array-read-predecessors t c = search needs
+backward-element-copy-out-set t c = search needs
 
-backward-add-predecessors-2 : (t : ℕ) → backward-lts.Need-add-predecessors-2 (
+backward-add-symbols : (t : ℕ) → backward-lts.Need-add-symbols (
   accepting-reads.Asked,
   accepting-reads.Learnt,
   ending-reads.Asked,
@@ -177,9 +181,9 @@ backward-add-predecessors-2 : (t : ℕ) → backward-lts.Need-add-predecessors-2
   predecessors-reads.Asked,
   predecessors-reads.Learnt,
 ) (backward-at t) backward.Post
-backward-add-predecessors-2 t c = search needs
+backward-add-symbols t c = search needs
 
-backward-mul-predecessors-2 : (t : ℕ) → backward-lts.Need-mul-predecessors-2 (
+backward-mul-symbols : (t : ℕ) → backward-lts.Need-mul-symbols (
   accepting-reads.Asked,
   accepting-reads.Learnt,
   ending-reads.Asked,
@@ -189,9 +193,9 @@ backward-mul-predecessors-2 : (t : ℕ) → backward-lts.Need-mul-predecessors-2
   predecessors-reads.Asked,
   predecessors-reads.Learnt,
 ) (backward-at t) backward.Post
-backward-mul-predecessors-2 t c = search needs
+backward-mul-symbols t c = search needs
 
-backward-array-read-predecessors-2 : (t : ℕ) → backward-lts.Need-array-read-predecessors-2 (
+backward-array-read-symbols : (t : ℕ) → backward-lts.Need-array-read-symbols (
   accepting-reads.Asked,
   accepting-reads.Learnt,
   ending-reads.Asked,
@@ -201,7 +205,7 @@ backward-array-read-predecessors-2 : (t : ℕ) → backward-lts.Need-array-read-
   predecessors-reads.Asked,
   predecessors-reads.Learnt,
 ) (backward-at t) backward.Post
-backward-array-read-predecessors-2 t c = search needs
+backward-array-read-symbols t c = search needs
 
 backward-predecessors-requires : (t : ℕ) → backward-lts.Need-predecessors-requires (
   accepting-reads.Asked,
@@ -215,7 +219,7 @@ backward-predecessors-requires : (t : ℕ) → backward-lts.Need-predecessors-re
 ) (backward-at t) backward.Post
 backward-predecessors-requires t c κs = search needs
 
-backward-mul-sets : (t : ℕ) → backward-lts.Need-mul-sets (
+backward-mul-behind : (t : ℕ) → backward-lts.Need-mul-behind (
   accepting-reads.Asked,
   accepting-reads.Learnt,
   ending-reads.Asked,
@@ -225,9 +229,9 @@ backward-mul-sets : (t : ℕ) → backward-lts.Need-mul-sets (
   predecessors-reads.Asked,
   predecessors-reads.Learnt,
 ) (backward-at t) backward.Post
-backward-mul-sets t c = search needs
+backward-mul-behind t c = search needs
 
-backward-array-write-sets : (t : ℕ) → backward-lts.Need-array-write-sets (
+backward-element-write-behind : (t : ℕ) → backward-lts.Need-element-write-behind (
   accepting-reads.Asked,
   accepting-reads.Learnt,
   ending-reads.Asked,
@@ -237,7 +241,7 @@ backward-array-write-sets : (t : ℕ) → backward-lts.Need-array-write-sets (
   predecessors-reads.Asked,
   predecessors-reads.Learnt,
 ) (backward-at t) backward.Post
-backward-array-write-sets t c = search needs
+backward-element-write-behind t c = search needs
 
 backward-returns-2 : (t : ℕ) → backward-lts.Need-returns-2 (
   accepting-reads.Asked,
@@ -250,15 +254,18 @@ backward-returns-2 : (t : ℕ) → backward-lts.Need-returns-2 (
   predecessors-reads.Learnt,
 ) (backward-at t) backward.Post
 backward-returns-2 t c =
-    let b = c .before .backward in
-    let e = c .before .before .before in
+    let b = c .before .before .before in
+    let e = b .before .before in
     let s = e .before .before .before in
     let x = s .args .t3 in
     let d = s .args .d .now in
     let k = s .args .k in
-    let fit = machine-suited k d x (s .pre .1 .1) (s .pre .1 .2) (search needs) (array-words x (λ i. search needs)) in
-    backward-next (machine k d) (stateCount d) k x fit (s .args .r) (e .before .accepting .result) _ _ _ (search needs) (c .before .before .if1 .left) (s .pre .1 .3)
-    (e .before .accepting .ensures ∙ sym (machine-accepting k d)) (e .ending .ensures) (b .ensures) (c .predecessors .ensures)
+    let fit = machine-suited k d x (s .pre .1 .1) (s .pre .1 .2) (search needs) (array-words x (λ i. search needs)) in (
+      backward-next (machine k d) (stateCount d) k x fit (s .args .r) (e .before .accepting .result) _ _ _ (search (needs, b .backward .ok))
+          (b .before .if1 .left) (s .pre .1 .3)
+          (e .before .accepting .ensures ∙ sym (machine-accepting k d)) (e .ending .ensures) (b .backward .ensures .0) (c .predecessors .ensures),
+      c .predecessors .ensures,
+    )
 
 pub +backward-spec : {M : Type 1} → statement M
 +backward-spec = close μ-backward λ t. backward-lts.spec (
@@ -277,17 +284,17 @@ pub +backward-spec : {M : Type 1} → statement M
     (backward-array-read-ending t)
     (backward-accepting-requires t)
     (backward-ending-requires t)
-    (backward-array-write-last t)
+    (backward-array-write-sets t)
     (backward-returns t)
     (backward-sub-backward t)
     (backward-backward-requires t)
-    (backward-add-predecessors t)
-    (backward-mul-predecessors t)
-    (backward-array-read-predecessors t)
-    (backward-add-predecessors-2 t)
-    (backward-mul-predecessors-2 t)
-    (backward-array-read-predecessors-2 t)
+    (backward-add-set t)
+    (backward-mul-set t)
+    (backward-element-copy-out-set t)
+    (backward-add-symbols t)
+    (backward-mul-symbols t)
+    (backward-array-read-symbols t)
     (backward-predecessors-requires t)
-    (backward-mul-sets t)
-    (backward-array-write-sets t)
+    (backward-mul-behind t)
+    (backward-element-write-behind t)
     (backward-returns-2 t)

@@ -3,6 +3,8 @@ use native.Mathlib.Omega.{arith}
 use lib.ListN.{length}
 use mathlib.Core.Path.{_≡_, refl}
 use Rattle.automata.specs.Machine.{stateCount, machine}
+use Rattle.automata.specs.Sets.{Successors}
+use Rattle.automata.proofs.SetLaws.{gathered-empty, no-bit}
 use Rattle.rows.proofs.Fill.{array-words}
 use Rattle.regular.specs.Sets.{Forward}
 use Rattle.regular.proofs.StateLaws.{machine-suited, forward-start, forward-step, forward-upto}
@@ -11,34 +13,35 @@ use Rattle.regular.proofs.forward.Statement.{statement}
 use Rattle.regular.proofs.forward.Tie as tie
 use Rattle.regular.proofs.forward.Reads as reads
 use Rattle.regular.proofs.forward.Lts as lts
-use Rattle.automata.proofs.successors.Reads as successors-reads
+use Rattle.regular.proofs.successors.Reads as successors-reads
 
 abbrev Inv-loop : tie.InvT-loop
-Inv-loop d k x sets₀ i₀ sets i = (i ≤ 63) × (length sets ≡ 64) × Forward (machine k d) x (i + 1) sets
+Inv-loop d k x sets₀ last₀ i₀ sets last i =
+    (i ≤ 63) × (length sets ≡ 64) × Forward (machine k d) x (i + 1) sets × Successors (machine k d) (stateCount d) k (last .set) (last .symbols) (last .states)
 
 abbrev μ-loop : tie.MeasureT-loop
-μ-loop d k x sets₀ i₀ sets i = 63 - i
+μ-loop d k x sets₀ last₀ i₀ sets last i = 63 - i
 
 array-write-sets : tie.Need-array-write-sets Inv-loop μ-loop
 array-write-sets c = search needs
 
 loop-holds : tie.Need-loop-holds Inv-loop μ-loop
-loop-holds c = (search needs, search needs, forward-start _ _ _ refl)
+loop-holds c = (search needs, search needs, forward-start _ _ _ refl, gathered-empty _ _ (λ i t x. no-bit _ i refl (x .0)))
 
-mul-successors : tie.Need-mul-successors Inv-loop μ-loop
-mul-successors c = search needs
+mul-set : tie.Need-mul-set Inv-loop μ-loop
+mul-set c = search needs
 
-array-read-successors : tie.Need-array-read-successors Inv-loop μ-loop
-array-read-successors c = search needs
+array-read-set : tie.Need-array-read-set Inv-loop μ-loop
+array-read-set c = search needs
 
-add-successors : tie.Need-add-successors Inv-loop μ-loop
-add-successors c = search needs
+add-symbols : tie.Need-add-symbols Inv-loop μ-loop
+add-symbols c = search needs
 
-mul-successors-2 : tie.Need-mul-successors-2 Inv-loop μ-loop
-mul-successors-2 c = search needs
+mul-symbols : tie.Need-mul-symbols Inv-loop μ-loop
+mul-symbols c = search needs
 
-array-read-successors-2 : tie.Need-array-read-successors-2 Inv-loop μ-loop
-array-read-successors-2 c = search needs
+array-read-symbols : tie.Need-array-read-symbols Inv-loop μ-loop
+array-read-symbols c = search needs
 
 successors-requires : tie.Need-successors-requires Inv-loop μ-loop
 successors-requires c κs = search needs
@@ -64,8 +67,13 @@ loop-again c =
     let s = c .before .before .before .before in
     let x = s .args .t3 in
     let d = s .args .d .now in
-    let fit = machine-suited (s .args .k) d x (s .pre .1) (s .pre .2) (search needs) (array-words x (λ i. search needs)) in
-    (search needs, search needs, forward-step (machine (s .args .k) d) (stateCount d) (s .args .k) x fit (l .i) _ (l .sets) (omega (arith, l .inv .1)) (l .inv .2) (c .successors .ensures))
+    let fit = machine-suited (s .args .k) d x (s .pre .1) (s .pre .2) (search needs) (array-words x (λ i. search needs)) in (
+      search needs,
+      search needs,
+      forward-step (machine (s .args .k) d) (stateCount d) (s .args .k) x fit (l .i) _ (l .sets)
+          (omega (arith, l .inv .1)) (l .inv .2) (c .successors .ensures),
+      c .successors .ensures,
+    )
 
 returns : tie.Need-returns Inv-loop μ-loop
 returns c =
@@ -80,11 +88,11 @@ forward-spec =
     μ-loop
     array-write-sets
     loop-holds
-    mul-successors
-    array-read-successors
-    add-successors
-    mul-successors-2
-    array-read-successors-2
+    mul-set
+    array-read-set
+    add-symbols
+    mul-symbols
+    array-read-symbols
     successors-requires
     add-sets
     mul-sets
