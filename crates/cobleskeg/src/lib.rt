@@ -126,7 +126,7 @@ pub fn step(file: &[u8], j: usize, table: &mut [u64]) -> StepAnswer
             if j >= p.c + p.s {
                 return StepAnswer::Refused(11);
             }
-            StepAnswer::Struck(steps::step(file, p, j, table))
+            StepAnswer::Struck(list::step(file, p, j, table))
         }
     }
 }

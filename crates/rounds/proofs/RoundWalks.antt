@@ -1,56 +1,30 @@
--- Laws of the rounds as code takes them: a walk over steps is a run of them, the count of struck bits is the bits that went, and a round that strikes
--- something is followed by the rounds of what it left. Assumes nothing.
+-- Laws of the rounds as code takes them: a walk over the strings and one over the constraints are a round, and a round that strikes something is followed by
+-- the rounds of what it left. Assumes nothing.
 use mathlib.Core.Path.{_≡_, refl, sym, ap, subst, _∙_}
 use mathlib.Core.Logic.{⊎-elim}
 use mathlib.Core.Bool.{true}
-use mathlib.Core.List.{List, [], _∷_, _++_, map}
+use mathlib.Core.List.{List, map}
 use Prim.Native.Nat.{ℕ, _+_, _*_, _≤_, _<_}
 use native.Mathlib.Omega.{arith}
-use native.Mathlib.Numerals.{add-one}
-use lib.ListN.{length, getD, take, length-map}
-use lib.Seq.{take-suc, take-all}
+use lib.ListN.{length, getD, length-map}
+use lib.Seq.{take-all}
 use Rattle.model.specs.Lists.{from, upto}
 use Rattle.model.specs.Words.{size}
 use Rattle.model.specs.Constraints.{Problem, Constraint, always, width}
-use Rattle.model.specs.Support.{narrowed, struck}
+use Rattle.model.specs.Support.{struck}
 use Rattle.model.specs.Rounds.{steps, run, round, Settled, after, settling, settled}
 use Rattle.laws.proofs.ListLaws.{from-length, from-getD}
 use Rattle.laws.proofs.TableLaws.{Below, below-of-eq, below-trans, size-most, struck-size}
-use Rattle.laws.proofs.SupportLaws.{narrowed-below}
 use Rattle.laws.proofs.RoundLaws.{run-below, run-append, after-cases, settling-step}
 use Rattle.laws.proofs.CallLaws.{lendable, lendable-length, lendable-below}
 use Rattle.layout.specs.declared.Parts.{Parts}
 use Rattle.format.specs.Accepting.{problemIn}
 use Rattle.format.proofs.ContentLaws.{Counts}
 use Rattle.steps.specs.Step.{Step}
+use Rattle.list.specs.Listing.{Ran}
+use Rattle.list.proofs.WalkLaws.{Walked, walk-step, walk-lent, ran-walk}
 
 module _ (P : Problem) where
-  -- ---- a walk over steps
-
-  -- the first j of these steps make U of T, and take the count of struck bits from m to n
-  pub record Walked (cs : List Constraint) (T : List ℕ) (m j : ℕ) (U : List ℕ) (n : ℕ) : Type 0 where
-    pub table : U ≡ run P (take j cs) T
-    pub count : n + size U ≡ m + size T
-
-  pub walk-start : (cs : List Constraint) (T : List ℕ) (m : ℕ) → Walked cs T m 0 T m
-  unfolding run
-  walk-start cs T m = record { table = refl; count = refl }
-
-  step-count : (c : Constraint) (U W : List ℕ) (k : ℕ) → Step P c U W k → k + size W ≡ size U
-  step-count c U W k s = let e = struck-size U W (below-trans (below-of-eq (s .table)) (narrowed-below P c U)) in omega (arith, s .count)
-
-  walk-step : (cs : List Constraint) (T : List ℕ) (m j : ℕ) (U : List ℕ) (n : ℕ) (W : List ℕ) (k : ℕ)
-      → j < length cs → Step P (getD cs j (always 0)) U W k → Walked cs T m j U n → Walked cs T m (j + 1) W (n + k)
-  unfolding run
-  walk-step cs T m j U n W k l s w = record {
-    table = s .table ∙ ap (narrowed P (getD cs j (always 0))) (w .table) ∙ sym (run-append P (take j cs) (getD cs j (always 0) ∷ []) T)
-        ∙ ap (λ (ds : List Constraint). run P ds T) (sym (take-suc cs j (always 0) l)) ∙ ap (λ (i : ℕ). run P (take i cs) T) (sym (add-one j));
-    count = omega (arith, w .count, step-count (getD cs j (always 0)) U W k s);
-  }
-
-  walk-lent : (cs : List Constraint) (T : List ℕ) (m j : ℕ) (U : List ℕ) (n : ℕ) → lendable P T ≡ true → Walked cs T m j U n → lendable P U ≡ true
-  walk-lent cs T m j U n l w = lendable-below P U T (below-trans (below-of-eq (w .table)) (run-below P (take j cs) T)) l
-
   -- the steps of the first walk: trimming each string
   abbrev pub trims : List Constraint
   trims = map always (upto (P .strings))
@@ -65,7 +39,7 @@ module _ (P : Problem) where
 
   -- both walks to their ends are a round
   walks-round : (T : List ℕ) (x : ℕ) (U : List ℕ) (n j : ℕ) (W : List ℕ) (k : ℕ) → x ≡ P .strings → j ≡ length (P .constraints)
-      → Walked trims T 0 x U n → Walked (P .constraints) U n j W k → (W ≡ round P T) × (k + size W ≡ size T)
+      → Walked P trims T 0 x U n → Walked P (P .constraints) U n j W k → (W ≡ round P T) × (k + size W ≡ size T)
   unfolding round steps
   walks-round T x U n j W k ex ej v w =
       let whole : U ≡ run P trims T = v .table ∙ ap (λ (ds : List Constraint). run P ds T) (take-all x trims (omega (arith, trims-length))) in (
@@ -144,27 +118,31 @@ module _ {file : List ℕ} {p : Parts} (h : Counts file p) {T U : List ℕ} {n :
     pub trim-few : m ≤ 66561
     trim-few = omega (arith, v .count, b .few, h .most-words)
 
-    module _ {j : ℕ} {W : List ℕ} {k : ℕ} (w : Walked P (P .constraints) X m j W k) where
-      pub constraint-lent : lendable P W ≡ true
-      constraint-lent = walk-lent P (P .constraints) X m j W k (walk-lent P (trims P) U 0 x X m (b .lent) v) w
+    pub trim-lent : lendable P X ≡ true
+    trim-lent = walk-lent P (trims P) U 0 x X m (b .lent) v
 
-      pub constraint-next : {Z : List ℕ} {i : ℕ} → j < p .c → Step P (getD (P .constraints) j (always 0)) W Z i → Walked P (P .constraints) X m (j + 1) Z (k + i)
-      constraint-next {Z} {i} l f = walk-step P (P .constraints) X m j W k Z i (omega (arith, h .constraints)) f w
+    module _ {W : List ℕ} {i : ℕ} (r : Ran P (P .constraints) X W i) where
+      w : Walked P (P .constraints) X m (length (P .constraints)) W (m + i)
+      w = ran-walk P (P .constraints) X m W i r
 
-      pub constraint-few : k ≤ 66561
-      constraint-few = omega (arith, v .count, w .count, b .few, h .most-words)
+      pub round-lent : lendable P W ≡ true
+      round-lent = walk-lent P (P .constraints) X m (length (P .constraints)) W (m + i) trim-lent w
 
-      module _ (ex : x ≡ p .s) (ej : j ≡ p .c) where
-        both : (W ≡ round P U) × (k + size W ≡ size U)
-        both = walks-round P U x X m j W k (ex ∙ sym (h .strings)) (ej ∙ sym (h .constraints)) v w
+      -- the count still fits
+      pub round-few : m + i ≤ 66561
+      round-few = omega (arith, v .count, w .count, b .few, h .most-words)
+
+      module _ (ex : x ≡ p .s) where
+        both : (W ≡ round P U) × (m + i + size W ≡ size U)
+        both = walks-round P U x X m (length (P .constraints)) W (m + i) (ex ∙ sym (h .strings)) refl v w
 
         -- a round that struck something leaves fewer bits, and another follows
-        pub round-less : (k ≡ 0 → ⊥) → size W < size U
+        pub round-less : (m + i ≡ 0 → ⊥) → size W < size U
         round-less l = omega (arith, both .1, l)
 
-        pub round-next : (k ≡ 0 → ⊥) → Begins P T W (n + 1)
-        round-next l = begins-next P T U W n k (both .0) (both .1) b (omega (arith, l))
+        pub round-next : (m + i ≡ 0 → ⊥) → Begins P T W (n + 1)
+        round-next l = begins-next P T U W n (m + i) (both .0) (both .1) b (omega (arith, l))
 
         -- one that struck nothing is the last
-        pub round-last : k ≡ 0 → (n ≡ settling P T .rounds) × (W ≡ settled P T)
-        round-last e = ends P T U W n k (both .0) (both .1) b e
+        pub round-last : m + i ≡ 0 → (n ≡ settling P T .rounds) × (W ≡ settled P T)
+        round-last e = ends P T U W n (m + i) (both .0) (both .1) b e

@@ -18,15 +18,14 @@ pub fn settle(file: &[u8], p: layout::Parts, table: &mut [u64]) -> u32
     ensures { λ r. ⌜ r ≡ settling (problemIn (now (file .entry)) p) (now (table .entry)) .rounds ⌝ }
     ensures { λ r. ⌜ now (table .exit) ≡ settled (problemIn (now (file .entry)) p) (now (table .entry)) ⌝ }
 {
+    let constraints = list::of_file(file, p);
     let mut n: u32 = 1;
     let rounds = loop {
         let mut struck: u32 = 0;
         for x in 0..p.s {
             struck += steps::trim(table, x);
         }
-        for j in 0..p.c {
-            struck += steps::constraint(file, p, j, table);
-        }
+        struck += list::all(constraints, file, p, table);
         if struck == 0 {
             break n;
         }

@@ -1,7 +1,6 @@
 -- The laws of a step on a lent table: how many bits it strikes where rows and numbers are taken out, narrowed and put back; each kind's step; what the
--- constraints of an accepted file name; record j, automaton d and step j of the file.
+-- constraints of an accepted file name; automaton d of the file.
 pub mod CountLaws
 pub mod KindLaws
 pub mod NamedLaws
-pub mod FileLaws
 pub mod MachineLaws

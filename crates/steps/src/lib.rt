@@ -6,10 +6,9 @@ ghost use mathlib.Core.Logic.{_≢_};
 ghost use mathlib.Core.Bool.{true};
 ghost use mathlib.Core.List.{[], _∷_};
 ghost use Prim.Native.Nat.{ℕ, _+_, _*_, _<_, _≤_};
-ghost use lib.ListN.{length, getD, set};
+ghost use lib.ListN.{length, set};
 ghost use Rattle.model.specs.Constraints.{Problem, width, always, eq, neq, rev, cat, sub, len, regular};
 ghost use Rattle.model.specs.Support.{struck};
-ghost use Rattle.model.specs.Operations.{stepAt, stepCount};
 ghost use Rattle.laws.proofs.ListLaws.{In};
 ghost use Rattle.laws.proofs.WordLaws.{Within};
 ghost use Rattle.laws.proofs.TableLaws.{Below};
@@ -170,7 +169,7 @@ fn regular_at(file: &[u8], p: layout::Parts, table: &mut [u64], x: usize, d: usi
 }
 
 // The constraint that a record of the file is.
-fn narrow(file: &[u8], p: layout::Parts, r: records::Record, table: &mut [u64]) -> u32
+pub fn narrow(file: &[u8], p: layout::Parts, r: records::Record, table: &mut [u64]) -> u32
     requires { ⌜ Usable (now file) p × (lendable (problemIn (now file) p) (now table) ≡ true) × In (constraintOf r) (problemIn (now file) p .constraints) ⌝ }
     ensures { λ n. ⌜ Step (problemIn (now (file .entry)) p) (constraintOf r) (now (table .entry)) (now (table .exit)) n ⌝ }
 {
@@ -187,37 +186,5 @@ fn narrow(file: &[u8], p: layout::Parts, r: records::Record, table: &mut [u64]) 
         ),
         records::Record::Len(x, n) => len_at(table, x as usize, 64 * p.s + n as usize),
         records::Record::Regular(x, d) => regular_at(file, p, table, x as usize, d as usize),
-    }
-}
-
-// Constraint j of the file; every record of an accepted file is one.
-pub fn constraint(file: &[u8], p: layout::Parts, j: usize, table: &mut [u64]) -> u32
-    requires { ⌜ Usable (now file) p × (lendable (problemIn (now file) p) (now table) ≡ true) × (j < p .c) ⌝ }
-    ensures { λ r. ⌜ Step (problemIn (now (file .entry)) p) (getD (problemIn (now (file .entry)) p .constraints) j (always 0))
-        (now (table .entry)) (now (table .exit)) r ⌝ }
-{
-    let constraints = p.constraints_at;
-    let automata = p.automata_at;
-    let records::Decoded::Constraint(r) = records::at(
-        &file[constraints..automata],
-        j,
-        p.s,
-        p.t,
-        p.d,
-    ) else {
-        return 0;
-    };
-    narrow(file, p, r, table)
-}
-
-// Step j: constraint j below c, else the trimming of string j - c.
-pub fn step(file: &[u8], p: layout::Parts, j: usize, table: &mut [u64]) -> u32
-    requires { ⌜ Usable (now file) p × (lendable (problemIn (now file) p) (now table) ≡ true) × (j < p .c + p .s) ⌝ }
-    ensures { λ r. ⌜ Step (problemIn (now (file .entry)) p) (stepAt (problemIn (now (file .entry)) p) j) (now (table .entry)) (now (table .exit)) r ⌝ }
-{
-    if j < p.c {
-        constraint(file, p, j, table)
-    } else {
-        trim(table, j - p.c)
     }
 }

@@ -8,7 +8,7 @@ use Rattle.cobleskeg.proofs.step.Reads as reads
 use Rattle.cobleskeg.proofs.step.Lts as lts
 use Rattle.cobleskeg.proofs.unlendable.Reads as unlendable-reads
 use Rattle.format.proofs.accept.Reads as accept-reads
-use Rattle.steps.proofs.step.Reads as step-reads
+use Rattle.list.proofs.step.Reads as step-reads
 
 accept-requires : tie.Need-accept-requires
 accept-requires c κs = search needs

@@ -4,147 +4,124 @@ use Rattle.model.specs.Words.{size}
 use Rattle.laws.proofs.CallLaws.{lendable-length}
 use Rattle.format.specs.Accepting.{problemIn}
 use Rattle.format.proofs.ContentLaws.{usable-counts}
-use Rattle.rounds.proofs.RoundWalks.{Walked, trims, walk-start, Begins, begins-first, round-less, round-next, round-last}
-use Rattle.rounds.proofs.RoundWalks.{trim-room, trim-next, trim-few, constraint-lent, constraint-next, constraint-few}
+use Rattle.list.proofs.WalkLaws.{Walked, walk-start}
+use Rattle.rounds.proofs.RoundWalks.{trims, Begins, begins-first, trim-room, trim-next, trim-few, trim-lent, round-lent, round-few, round-less}
+use Rattle.rounds.proofs.RoundWalks.{round-next, round-last}
 use borrow.Author.Needs.{needs}
 use Rattle.rounds.proofs.settle.Statement.{statement}
 use Rattle.rounds.proofs.settle.Tie as tie
 use Rattle.rounds.proofs.settle.Reads as reads
 use Rattle.rounds.proofs.settle.Lts as lts
-use Rattle.steps.proofs.constraint.Reads as constraint-reads
+use Rattle.list.proofs.all.Reads as all-reads
+use Rattle.list.proofs.of_file.Reads as of-file-reads
 use Rattle.steps.proofs.trim.Reads as trim-reads
 
 abbrev Inv-loop2 : tie.InvT-loop2
-Inv-loop2 file p table₀ n struck₀ x₀ x-end table struck x = (x ≤ x-end) × Walked (problemIn file p) (trims (problemIn file p)) table₀ struck₀ x table struck
+Inv-loop2 file p table₀ constraints n struck₀ x₀ x-end table struck x = (x ≤ x-end) × Walked (problemIn file p) (trims
+    (problemIn file p)) table₀ struck₀ x table struck
 
 abbrev μ-loop2 : tie.MeasureT-loop2
-μ-loop2 file p table₀ n struck₀ x₀ x-end table struck x = x-end - x
-
-abbrev Inv-loop3 : tie.InvT-loop3
-Inv-loop3 file p table₀ n struck₀ j₀ j-end table struck j =
-    (j ≤ j-end) × Walked (problemIn file p) (problemIn file p .constraints) table₀ struck₀ j table struck
-
-abbrev μ-loop3 : tie.MeasureT-loop3
-μ-loop3 file p table₀ n struck₀ j₀ j-end table struck j = j-end - j
+μ-loop2 file p table₀ constraints n struck₀ x₀ x-end table struck x = x-end - x
 
 abbrev Inv-loop : tie.InvT-loop
-Inv-loop file p table₀ n₀ table n = Begins (problemIn file p) table₀ table n
+Inv-loop file p table₀ constraints n₀ table n = Begins (problemIn file p) table₀ table n
 
 -- every round but the last strikes a bit
 abbrev μ-loop : tie.MeasureT-loop
-μ-loop file p table₀ n₀ table n = size table
+μ-loop file p table₀ constraints n₀ table n = size table
 
-loop-holds : tie.Need-loop-holds Inv-loop2 μ-loop2 Inv-loop3 μ-loop3 Inv-loop μ-loop
-loop-holds c = begins-first _ _ (c .before .before .pre .1)
+of-file-requires : tie.Need-of-file-requires Inv-loop2 μ-loop2 Inv-loop μ-loop
+of-file-requires c κs = c .before .before .pre .0
+
+loop-holds : tie.Need-loop-holds Inv-loop2 μ-loop2 Inv-loop μ-loop
+loop-holds c = begins-first _ _ (c .before .before .before .pre .1)
 
 -- ---- the walk over the strings
 
-loop2-holds : tie.Need-loop2-holds Inv-loop2 μ-loop2 Inv-loop3 μ-loop3 Inv-loop μ-loop
+loop2-holds : tie.Need-loop2-holds Inv-loop2 μ-loop2 Inv-loop μ-loop
 loop2-holds c = (search needs, walk-start _ _ _ _)
 
-trim-requires : tie.Need-trim-requires Inv-loop2 μ-loop2 Inv-loop3 μ-loop3 Inv-loop μ-loop
+trim-requires : tie.Need-trim-requires Inv-loop2 μ-loop2 Inv-loop μ-loop
 trim-requires c κs =
     let l = c .before .before in
     let r = l .before in
-    trim-room (usable-counts _ _ (r .before .before .before .pre .0)) (r .loop .inv) (l .loop2 .inv .1) (search needs)
+    trim-room (usable-counts _ _ (r .before .before .before .before .pre .0)) (r .loop .inv) (l .loop2 .inv .1) (search needs)
 
-add-struck : tie.Need-add-struck Inv-loop2 μ-loop2 Inv-loop3 μ-loop3 Inv-loop μ-loop
+add-struck : tie.Need-add-struck Inv-loop2 μ-loop2 Inv-loop μ-loop
 add-struck c =
     let l = c .before .before .before .before .before in
     let r = l .before in
-    let h = usable-counts _ _ (r .before .before .before .pre .0) in
+    let h = usable-counts _ _ (r .before .before .before .before .pre .0) in
     omega (arith, trim-few h (r .loop .inv) (trim-next h (r .loop .inv) (l .loop2 .inv .1) (search needs) (c .before .before .trim .ensures)))
 
-add-x : tie.Need-add-x Inv-loop2 μ-loop2 Inv-loop3 μ-loop3 Inv-loop μ-loop
+add-x : tie.Need-add-x Inv-loop2 μ-loop2 Inv-loop μ-loop
 add-x c = search needs
 
-loop2-less : tie.Need-loop2-less Inv-loop2 μ-loop2 Inv-loop3 μ-loop3 Inv-loop μ-loop
+loop2-less : tie.Need-loop2-less Inv-loop2 μ-loop2 Inv-loop μ-loop
 loop2-less c = search needs
 
-loop2-again : tie.Need-loop2-again Inv-loop2 μ-loop2 Inv-loop3 μ-loop3 Inv-loop μ-loop
+loop2-again : tie.Need-loop2-again Inv-loop2 μ-loop2 Inv-loop μ-loop
 loop2-again c =
     let l = c .before .before .before .before .before in
     let r = l .before in
-    let h = usable-counts _ _ (r .before .before .before .pre .0) in
+    let h = usable-counts _ _ (r .before .before .before .before .pre .0) in
     (search needs, trim-next h (r .loop .inv) (l .loop2 .inv .1) (search needs) (c .before .before .trim .ensures))
 
 -- ---- the walk over the constraints
 
-loop3-holds : tie.Need-loop3-holds Inv-loop2 μ-loop2 Inv-loop3 μ-loop3 Inv-loop μ-loop
-loop3-holds c = (search needs, walk-start _ _ _ _)
-
-constraint-requires :
-    tie.Need-constraint-requires Inv-loop2 μ-loop2 Inv-loop3 μ-loop3 Inv-loop μ-loop
-constraint-requires c κs =
-    let m = c .before .before in
-    let l = m .before .before in
+all-requires : tie.Need-all-requires Inv-loop2 μ-loop2 Inv-loop μ-loop
+all-requires c κs =
+    let l = c .before .before in
     let r = l .before in
-    let u = r .before .before .before .pre .0 in
-    (u, constraint-lent (usable-counts _ _ u) (r .loop .inv) (l .loop2 .inv .1) (m .loop3 .inv .1), search needs)
+    let u = r .before .before .before .before .pre .0 in
+    (u, trim-lent (usable-counts _ _ u) (r .loop .inv) (l .loop2 .inv .1), r .before .of-file .ensures)
 
-add-struck-2 : tie.Need-add-struck-2 Inv-loop2 μ-loop2 Inv-loop3 μ-loop3 Inv-loop μ-loop
+add-struck-2 : tie.Need-add-struck-2 Inv-loop2 μ-loop2 Inv-loop μ-loop
 add-struck-2 c =
-    let m = c .before .before .before .before .before in
-    let l = m .before .before in
+    let l = c .before .before .before .before .before in
     let r = l .before in
-    let h = usable-counts _ _ (r .before .before .before .pre .0) in
-    let b = r .loop .inv in
-    let v = l .loop2 .inv .1 in
-    omega (arith, constraint-few h b v (constraint-next h b v (m .loop3 .inv .1) (search needs) (c .before .before .constraint .ensures)))
-
-add-j : tie.Need-add-j Inv-loop2 μ-loop2 Inv-loop3 μ-loop3 Inv-loop μ-loop
-add-j c = search needs
-
-loop3-less : tie.Need-loop3-less Inv-loop2 μ-loop2 Inv-loop3 μ-loop3 Inv-loop μ-loop
-loop3-less c = search needs
-
-loop3-again : tie.Need-loop3-again Inv-loop2 μ-loop2 Inv-loop3 μ-loop3 Inv-loop μ-loop
-loop3-again c =
-    let m = c .before .before .before .before .before in
-    let l = m .before .before in
-    let r = l .before in
-    let h = usable-counts _ _ (r .before .before .before .pre .0) in
-    (search needs, constraint-next h (r .loop .inv) (l .loop2 .inv .1) (m .loop3 .inv .1) (search needs) (c .before .before .constraint .ensures))
+    let h = usable-counts _ _ (r .before .before .before .before .pre .0) in
+    omega (arith, round-few h (r .loop .inv) (l .loop2 .inv .1) (c .before .before .all .ensures))
 
 -- ---- round after round
 
-add-n : tie.Need-add-n Inv-loop2 μ-loop2 Inv-loop3 μ-loop3 Inv-loop μ-loop
+add-n : tie.Need-add-n Inv-loop2 μ-loop2 Inv-loop μ-loop
 add-n c =
-    let r = c .before .before .before .before .before in
-    omega (arith, usable-counts _ _ (r .before .before .before .pre .0) .most-words, r .loop .inv .few)
+    let r = c .before .before .before .before .before .before .before in
+    omega (arith, usable-counts _ _ (r .before .before .before .before .pre .0) .most-words, r .loop .inv .few)
 
-loop-less : tie.Need-loop-less Inv-loop2 μ-loop2 Inv-loop3 μ-loop3 Inv-loop μ-loop
+loop-less : tie.Need-loop-less Inv-loop2 μ-loop2 Inv-loop μ-loop
 loop-less c =
-    let m = c .before .before in
-    let l = m .before .before in
+    let a = c .before .before .before in
+    let l = a .before .before .before in
     let r = l .before in
-    let h = usable-counts _ _ (r .before .before .before .pre .0) in
-    round-less h (r .loop .inv) (l .loop2 .inv .1) (m .loop3 .inv .1) (omega arith) (omega arith) (c .if1 .left)
+    let h = usable-counts _ _ (r .before .before .before .before .pre .0) in
+    round-less h (r .loop .inv) (l .loop2 .inv .1) (a .all .ensures) (omega arith) (c .if1 .left)
 
-loop-again : tie.Need-loop-again Inv-loop2 μ-loop2 Inv-loop3 μ-loop3 Inv-loop μ-loop
+loop-again : tie.Need-loop-again Inv-loop2 μ-loop2 Inv-loop μ-loop
 loop-again c =
-    let m = c .before .before in
-    let l = m .before .before in
+    let a = c .before .before .before in
+    let l = a .before .before .before in
     let r = l .before in
-    let h = usable-counts _ _ (r .before .before .before .pre .0) in
-    round-next h (r .loop .inv) (l .loop2 .inv .1) (m .loop3 .inv .1) (omega arith) (omega arith) (c .if1 .left)
+    let h = usable-counts _ _ (r .before .before .before .before .pre .0) in
+    round-next h (r .loop .inv) (l .loop2 .inv .1) (a .all .ensures) (omega arith) (c .if1 .left)
 
-same-length : tie.Need-same-length Inv-loop2 μ-loop2 Inv-loop3 μ-loop3 Inv-loop μ-loop
+same-length : tie.Need-same-length Inv-loop2 μ-loop2 Inv-loop μ-loop
 same-length c =
-    let m = c .before .before in
-    let l = m .before .before in
+    let a = c .before .before .before in
+    let l = a .before .before .before in
     let r = l .before in
-    let s = r .before .before .before in
-    let lent = constraint-lent (usable-counts _ _ (s .pre .0)) (r .loop .inv) (l .loop2 .inv .1) (m .loop3 .inv .1) in
+    let s = r .before .before .before .before in
+    let lent = round-lent (usable-counts _ _ (s .pre .0)) (r .loop .inv) (l .loop2 .inv .1) (a .all .ensures) in
     omega (arith, lendable-length _ _ lent, lendable-length _ _ (s .pre .1))
 
-returns : tie.Need-returns Inv-loop2 μ-loop2 Inv-loop3 μ-loop3 Inv-loop μ-loop
+returns : tie.Need-returns Inv-loop2 μ-loop2 Inv-loop μ-loop
 returns c =
-    let m = c .before .before in
-    let l = m .before .before in
+    let a = c .before .before .before in
+    let l = a .before .before .before in
     let r = l .before in
-    let h = usable-counts _ _ (r .before .before .before .pre .0) in
-    round-last h (r .loop .inv) (l .loop2 .inv .1) (m .loop3 .inv .1) (omega arith) (omega arith) (c .if1 .taken)
+    let h = usable-counts _ _ (r .before .before .before .before .pre .0) in
+    round-last h (r .loop .inv) (l .loop2 .inv .1) (a .all .ensures) (omega arith) (c .if1 .taken)
 
 pub settle-spec : {M : Type 1} → statement M
 settle-spec =
@@ -152,10 +129,9 @@ settle-spec =
     (tie.spec
     Inv-loop2
     μ-loop2
-    Inv-loop3
-    μ-loop3
     Inv-loop
     μ-loop
+    of-file-requires
     loop-holds
     loop2-holds
     trim-requires
@@ -163,12 +139,8 @@ settle-spec =
     add-x
     loop2-less
     loop2-again
-    loop3-holds
-    constraint-requires
+    all-requires
     add-struck-2
-    add-j
-    loop3-less
-    loop3-again
     add-n
     loop-less
     loop-again

@@ -1,0 +1,39 @@
+use Rattle.list.proofs.ListedLaws.{never-none, constraint-there, meant-step}
+use borrow.Author.Needs.{needs}
+use Rattle.list.proofs.one.Statement.{statement}
+use Rattle.list.proofs.one.Tie as tie
+use Rattle.list.proofs.one.Reads as reads
+use Rattle.list.proofs.one.Lts as lts
+use Rattle.records.proofs.decode.Reads as decode-reads
+use Rattle.steps.proofs.narrow.Reads as narrow-reads
+
+decode-requires : tie.Need-decode-requires
+decode-requires c κs = search needs
+
+enum-known-r : tie.Need-enum-known-r
+enum-known-r c = search needs
+
+enum-told : tie.Need-enum-told
+enum-told c = search needs
+
+returns : tie.Need-returns
+returns c = never-none _ _ _ _ (c .before .before .before .before .before .pre) _ (c .before .before .decode .ensures) (c .enum-told .given .1)
+
+narrow-requires : tie.Need-narrow-requires
+narrow-requires c κs =
+    let known = c .before .before in
+    constraint-there _ _ _ _ (known .before .before .before .before .before .pre) _ (known .before .before .decode .ensures) _ (known .r .given .1)
+
+same-length : tie.Need-same-length
+same-length c = search needs
+
+returns-2 : tie.Need-returns-2
+returns-2 c =
+    let known = c .before .before .before .before .before in
+    meant-step _ _ _ _ (known .before .before .before .before .before .pre) _ (known .before .before .decode .ensures) _ (known .r .given .1)
+    (c .before .before .narrow .ensures)
+
+pub one-spec : {M : Type 1} → statement M
+one-spec =
+    tie.close
+    (tie.spec decode-requires enum-known-r enum-told returns narrow-requires same-length returns-2)
