@@ -14,6 +14,7 @@ use Rattle.model.specs.Layout.{little, part, trailer, tail, inBounds, abutting}
 use Rattle.layout.specs.declared.Trailer.{Trailer}
 use Rattle.layout.specs.Heads.{headOf}
 use Rattle.little.proofs.LittleLaws.{part-next}
+use Rattle.reader.proofs.NumberLaws.{little-one}
 
 -- where the trailer starts
 abbrev start : List ℕ → ℕ
@@ -47,22 +48,30 @@ module _ (file : List ℕ) where
         → eqb (getD file (start file + 23) 0) 76 ≡ same (trailer file .mark) tail
     last-decides first second third = sym (mark-test ∙ simp (eq-eqb _ _ first, eq-eqb _ _ second, eq-eqb _ _ third, and-true))
 
-  -- the numbers read at their places make the trailer
+  -- the numbers read one after the other make the trailer
   pub trailer-numbers : (h : Trailer)
-      → h .k ≡ getD file (start file) 0
-      → h .s ≡ getD file (start file + 1) 0
-      → h .t ≡ getD file (start file + 2) 0
-      → h .d ≡ getD file (start file + 3) 0
-      → h .c ≡ little (part (start file + 4) 2 file)
-      → h .spare ≡ little (part (start file + 6) 2 file)
-      → h .table ≡ little (part (start file + 8) 4 file)
-      → h .constraints ≡ little (part (start file + 12) 4 file)
-      → h .automata ≡ little (part (start file + 16) 4 file)
+      → h .k ≡ little (part (start file) 1 file)
+      → h .s ≡ little (part (start file + 1) 1 file)
+      → h .t ≡ little (part (start file + 1 + 1) 1 file)
+      → h .d ≡ little (part (start file + 1 + 1 + 1) 1 file)
+      → h .c ≡ little (part (start file + 1 + 1 + 1 + 1) 2 file)
+      → h .spare ≡ little (part (start file + 1 + 1 + 1 + 1 + 2) 2 file)
+      → h .table ≡ little (part (start file + 1 + 1 + 1 + 1 + 2 + 2) 4 file)
+      → h .constraints ≡ little (part (start file + 1 + 1 + 1 + 1 + 2 + 2 + 4) 4 file)
+      → h .automata ≡ little (part (start file + 1 + 1 + 1 + 1 + 2 + 2 + 4 + 4) 4 file)
       → headOf (trailer file .mark) h ≡ trailer file
   unfolding headOf trailer
   trailer-numbers h k s t d c spare table constraints automata =
-      let e : start file + 0 ≡ start file = omega arith in
-      rw (k, s, t, d, c, spare, table, constraints, automata) (simp (drop-drop, getD-drop, e))
+      let at = start file in
+      let e₀ : at + 0 ≡ at = omega arith in
+      let e₂ : at + 1 + 1 ≡ at + 2 = omega arith in
+      let e₃ : at + 2 + 1 ≡ at + 3 = omega arith in
+      let e₄ : at + 3 + 1 ≡ at + 4 = omega arith in
+      let e₆ : at + 4 + 2 ≡ at + 6 = omega arith in
+      let e₈ : at + 6 + 2 ≡ at + 8 = omega arith in
+      let e₁₂ : at + 8 + 4 ≡ at + 12 = omega arith in
+      let e₁₆ : at + 12 + 4 ≡ at + 16 = omega arith in
+      rw (k, s, t, d, c, spare, table, constraints, automata) (simp (e₂, e₃, e₄, e₆, e₈, e₁₂, e₁₆, little-one, drop-drop, getD-drop, e₀))
 
 -- ---- the tests of refusals 3 and 4, where all but the last have passed
 

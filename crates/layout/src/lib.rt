@@ -1,7 +1,8 @@
 // How a problem file lays out its parts: the trailer of 24 bytes, and refusals 1 to 4. Nothing above this crate knows the trailer; where a part lies comes
 // back as numbers.
 //
-// Assumes nothing. The trailer's fields keep their widths, so that in a `usize` no sum of distances wraps.
+// Assumes nothing. No field of the trailer is wider than 32 bits, so that in a `usize` no sum of distances wraps.
+use reader::Reader;
 ghost use mathlib.Core.Path.{_≡_};
 ghost use Prim.Native.Nat.{_+_, _≤_};
 ghost use lib.ListN.{length};
@@ -31,12 +32,12 @@ pub enum Layout {
 
 // The numbers of the trailer, in its order. The last three are distances from its first byte back.
 struct Trailer {
-    k: u8,
-    s: u8,
-    t: u8,
-    d: u8,
-    c: u16,
-    spare: u16,
+    k: u32,
+    s: u32,
+    t: u32,
+    d: u32,
+    c: u32,
+    spare: u32,
     table: u32,
     constraints: u32,
     automata: u32,
@@ -60,31 +61,35 @@ fn marked(file: &[u8]) -> bool
     file[at + 23] == b'L'
 }
 
-// The trailer's numbers.
+// The trailer's numbers, one after the other from its first byte on.
 fn read(file: &[u8]) -> Trailer
     requires { ⌜ 24 ≤ length (now file) ⌝ }
     ensures { λ r. ⌜ headOf (trailer (now (file .entry)) .mark) r ≡ trailer (now (file .entry)) ⌝ }
 {
-    let at = file.len() - 24;
-    let k = file[at];
-    let s = file[at + 1];
-    let t = file[at + 2];
-    let d = file[at + 3];
-    let c = little::two(file, at + 4);
-    let spare = little::two(file, at + 6);
-    let table = little::four(file, at + 8);
-    let constraints = little::four(file, at + 12);
-    let automata = little::four(file, at + 16);
+    let start = Reader {
+        bytes: file,
+        at: file.len() - 24,
+        number: 0,
+    };
+    let k = reader::next(start, 1);
+    let s = reader::next(k, 1);
+    let t = reader::next(s, 1);
+    let d = reader::next(t, 1);
+    let c = reader::next(d, 2);
+    let spare = reader::next(c, 2);
+    let table = reader::next(spare, 4);
+    let constraints = reader::next(table, 4);
+    let automata = reader::next(constraints, 4);
     Trailer {
-        k,
-        s,
-        t,
-        d,
-        c,
-        spare,
-        table,
-        constraints,
-        automata,
+        k: k.number,
+        s: s.number,
+        t: t.number,
+        d: d.number,
+        c: c.number,
+        spare: spare.number,
+        table: table.number,
+        constraints: constraints.number,
+        automata: automata.number,
     }
 }
 

@@ -1,8 +1,8 @@
 -- Laws of refusals 7 and 8: what a loop over the records has shown so far, and what records that have neither are. Assumes nothing.
-use mathlib.Core.Path.{_≡_, sym, ap, _∙_}
-use mathlib.Core.Bool.{true, false}
+use mathlib.Core.Path.{_≡_, refl, sym, ap, _∙_}
+use mathlib.Core.Bool.{true, false, true≢false}
 use mathlib.Core.List.{List, []}
-use mathlib.Core.Option.{none, some, Option·none-ne-some, Option·some-injective}
+use mathlib.Core.Option.{Option, none, some, Option·none-ne-some, Option·some-injective}
 use mathlib.Core.Logic.{⊎-elim}
 use Prim.Native.Nat.{ℕ, _+_, _*_, _<_, _≤_}
 use native.Mathlib.Nat.{eq-or-lt-of-le}
@@ -17,7 +17,7 @@ use Rattle.laws.proofs.ReadingLaws.{pieces-length, pieces-at}
 use Rattle.records.specs.declared.Record.{Record}
 use Rattle.records.specs.declared.Decoded.{Decoded}
 use Rattle.records.specs.declared.Decoded.the-variants.{Constraint as One, NotOne}
-use Rattle.records.specs.Records.{constraintOf, decodedOf, repeatedIn, refusalIn, refusalOf}
+use Rattle.records.specs.Records.{constraintOf, decodedOf, isSome, repeatedIn, refusalIn, refusalOf}
 use Rattle.records.proofs.RecordLaws.{is-constraint, is-none}
 use Rattle.laws.proofs.CollectLaws.{any-none, collect-none, collect-all, collect-length, collect-at}
 
@@ -51,34 +51,71 @@ module _ (s t d c : ℕ) (bytes : List ℕ) where
   none-collected : (j : ℕ) → j < c → decode s t d (part (4 * j) 4 bytes) ≡ none → collect (decode s t d) (pieces c 4 bytes) ≡ none
   none-collected j h e = collect-none (decode s t d) (pieces c 4 bytes) [] j (below-count j h) (ap (decode s t d) (record-at j h) ∙ e)
 
+-- ---- what `isSome` tells
+
+pub some-of : {A : Type 0} (o : Option A) → isSome o ≡ true → (x : A) × (o ≡ some x)
+unfolding isSome
+some-of none e = absurd (true≢false (sym e))
+some-of (some x) e = (x, refl)
+
+pub none-of : {A : Type 0} (o : Option A) → isSome o ≡ false → o ≡ none
+unfolding isSome
+none-of none e = refl
+none-of (some x) e = absurd (true≢false e)
+
+-- what is decoded says whether there is a constraint
+pub stood : (o : Decoded) (r : Record) (p : Option Constraint) → decodedOf o ≡ p → o ≡ One r → true ≡ isSome p
+unfolding isSome decodedOf
+stood o r p e q = ap isSome (ap decodedOf (sym q) ∙ e)
+
+pub fell : (o : Decoded) (p : Option Constraint) → decodedOf o ≡ p → o ≡ NotOne → false ≡ isSome p
+unfolding isSome decodedOf
+fell o p e q = ap isSome (ap decodedOf (sym q) ∙ e)
+
 -- ---- refusal 7
 
 pub decodes-none : {s t d : ℕ} {bytes : List ℕ} → Decodes s t d bytes 0
 decodes-none = record { each = λ i h. absurd (omega arith) }
 
-pub decodes-next : {s t d : ℕ} {bytes : List ℕ} (j : ℕ) (o : Decoded) (r : Record) → Decodes s t d bytes j → decodedOf o ≡ decode s t d (part (4 * j) 4 bytes) → o ≡ One r
-    → Decodes s t d bytes (j + 1)
-decodes-next {s} {t} {d} {bytes} j o r p e q = record {
-  each = λ i h. ⊎-elim
-      (λ (w : i ≡ j). (constraintOf r, ap (λ (n : ℕ). decode s t d (part (4 * n) 4 bytes)) w ∙ is-constraint e q))
-      (λ (l : i < j). p .each i l)
+-- one record more, at its place
+pub decodes-next : {s t d : ℕ} {bytes : List ℕ} (j i : ℕ) → Decodes s t d bytes j → i ≡ 4 * j → true ≡ isSome (decode s t d (part i 4 bytes)) → Decodes s t d bytes (j + 1)
+decodes-next {s} {t} {d} {bytes} j i p at e = record {
+  each = λ k h. ⊎-elim
+      (λ (w : k ≡ j).
+      let found = some-of (decode s t d (part i 4 bytes)) (sym e) in
+      (found .0, ap (λ (n : ℕ). decode s t d (part n 4 bytes)) (ap (λ (n : ℕ). 4 * n) w ∙ sym at) ∙ found .1))
+      (λ (l : k < j). p .each k l)
       (eq-or-lt-of-le (omega arith));
 }
 
-pub seven : (s t d c j : ℕ) (bytes : List ℕ) (o : Decoded) → j < c → decodedOf o ≡ decode s t d (part (4 * j) 4 bytes) → o ≡ NotOne → 7 ≡ refusalOf s t d (pieces c 4 bytes)
-unfolding refusalOf refusalIn
-seven s t d c j bytes o h e q = rw (none-collected s t d c bytes j h (is-none e q))
+module _ (s t d c : ℕ) (bytes : List ℕ) where
+  -- a record that is no constraint, at its place
+  pub one-fails : (j i : ℕ) → j < c → i ≡ 4 * j → false ≡ isSome (decode s t d (part i 4 bytes)) → false ≡ isSome (collect (decode s t d) (pieces c 4 bytes))
+  unfolding isSome
+  one-fails j i h at e =
+      let none-there = none-of (decode s t d (part i 4 bytes)) (sym e) in
+      rw (none-collected s t d c bytes j h (ap (λ (n : ℕ). decode s t d (part n 4 bytes)) (sym at) ∙ none-there))
 
--- where every record is a constraint, the refusal is that of the constraints
-pub not-seven : (s t d c j r : ℕ) (bytes : List ℕ) → c ≤ j → Decodes s t d bytes j
-    → ((cs : List Constraint) → collect (decode s t d) (pieces c 4 bytes) ≡ some cs → r ≡ repeatedIn cs) → r ≡ refusalOf s t d (pieces c 4 bytes)
-unfolding refusalOf refusalIn
-not-seven s t d c j r bytes q p h =
-    let n = pieces-length c 4 bytes in
-    let a = collect-all (decode s t d) (pieces c 4 bytes) [] (λ i l.
-    let k = p .each i (omega arith) in
-    (k .0, ap (decode s t d) (record-at s t d c bytes i (omega arith)) ∙ k .1)) in
-    h (a .0) (a .1) ∙ sym (rw (a .1))
+  collected : (j : ℕ) → c ≤ j → Decodes s t d bytes j → (cs : List Constraint) × (collect (decode s t d) (pieces c 4 bytes) ≡ some cs)
+  collected j q p =
+      let n = pieces-length c 4 bytes in
+      collect-all (decode s t d) (pieces c 4 bytes) [] (λ i l.
+      let k = p .each i (omega arith) in
+      (k .0, ap (decode s t d) (record-at s t d c bytes i (omega arith)) ∙ k .1))
+
+  pub none-fails : (j : ℕ) → c ≤ j → Decodes s t d bytes j → true ≡ isSome (collect (decode s t d) (pieces c 4 bytes))
+  unfolding isSome
+  none-fails j q p = rw (collected j q p .1)
+
+  pub seven : isSome (collect (decode s t d) (pieces c 4 bytes)) ≡ false → 7 ≡ refusalOf s t d (pieces c 4 bytes)
+  unfolding refusalOf refusalIn
+  seven e = rw (none-of (collect (decode s t d) (pieces c 4 bytes)) e)
+
+  -- where every record is a constraint, the refusal is that of the constraints
+  pub not-seven : (r : ℕ) → isSome (collect (decode s t d) (pieces c 4 bytes)) ≡ true
+      → ((cs : List Constraint) → collect (decode s t d) (pieces c 4 bytes) ≡ some cs → r ≡ repeatedIn cs) → r ≡ refusalOf s t d (pieces c 4 bytes)
+  unfolding refusalOf refusalIn
+  not-seven r e h = let found = some-of (collect (decode s t d) (pieces c 4 bytes)) e in h (found .0) (found .1) ∙ ap refusalIn (sym (found .1))
 
 -- ---- refusal 8
 

@@ -1,5 +1,5 @@
 -- What the code's records mean in the model's words, and which of the refusals 7 and 8 a list of records has. Assumes nothing.
-use mathlib.Core.Bool.{cond}
+use mathlib.Core.Bool.{Bool, true, false, cond}
 use mathlib.Core.List.{List}
 use mathlib.Core.Option.{Option, none, some}
 use Prim.Native.Nat.{ℕ}
@@ -25,6 +25,11 @@ constraintOf (Regular x d) = regular x d
 unfoldable pub decodedOf : Decoded → Option Constraint
 decodedOf (One r) = some (constraintOf r)
 decodedOf NotOne = none
+
+-- whether there is one
+unfoldable pub isSome : {A : Type 0} → Option A → Bool
+isSome none = false
+isSome (some x) = true
 
 -- "8: a constraint naming one string twice", else 0
 unfoldable pub repeatedIn : List Constraint → ℕ

@@ -1,7 +1,8 @@
 // Constraint records, 4 bytes each: kind, then up to three arguments, unused ones 0. Refusals 7 and 8 of a file with s strings, t numbers and d automata.
-// A record is decoded anew wherever it is wanted: `at` alone reads its bytes, `decode` alone knows the kinds.
+// A record is decoded anew wherever it is wanted: `from` alone reads its bytes, `decode` alone knows the kinds. A reader goes over the records for refusal 7.
 //
 // Assumes nothing. `requires` asks what refusals 3 and 4 leave: whole records, at most 64.
+use reader::Reader;
 ghost use mathlib.Core.Path.{_≡_};
 ghost use mathlib.Core.Bool.{_&&_};
 ghost use mathlib.Core.List.{List, [], _∷_};
@@ -13,7 +14,7 @@ ghost use Rattle.model.specs.Lists.{given, collect};
 ghost use Rattle.model.specs.Constraints.{Constraint, variables};
 ghost use Rattle.model.specs.Layout.{part};
 ghost use Rattle.model.specs.Reading.{decode, repeats, pieces};
-ghost use Rattle.records.specs.Records.{constraintOf, decodedOf, repeatedIn, refusalOf};
+ghost use Rattle.records.specs.Records.{constraintOf, decodedOf, isSome, repeatedIn, refusalOf};
 
 // The kinds 1 to 7 with their arguments.
 pub enum Record {
@@ -74,13 +75,20 @@ pub fn decode(kind: u8, x: u8, y: u8, z: u8, s: usize, t: usize, d: usize) -> De
     }
 }
 
+// The record from a byte on.
+fn from(bytes: &[u8], i: usize, s: usize, t: usize, d: usize) -> Decoded
+    requires { ⌜ i + 4 ≤ length (now bytes) ⌝ }
+    ensures { λ r. ⌜ decodedOf r ≡ decode s t d (part i 4 (now (bytes .entry))) ⌝ }
+{
+    decode(bytes[i], bytes[i + 1], bytes[i + 2], bytes[i + 3], s, t, d)
+}
+
 // Record j of the constraint bytes.
 pub fn at(bytes: &[u8], j: usize, s: usize, t: usize, d: usize) -> Decoded
     requires { ⌜ 4 * j + 4 ≤ length (now bytes) ⌝ }
     ensures { λ r. ⌜ decodedOf r ≡ decode s t d (part (4 * j) 4 (now (bytes .entry))) ⌝ }
 {
-    let i = 4 * j;
-    decode(bytes[i], bytes[i + 1], bytes[i + 2], bytes[i + 3], s, t, d)
+    from(bytes, 4 * j, s, t, d)
 }
 
 // Whether a constraint names one string twice.
@@ -114,15 +122,43 @@ fn repeated(bytes: &[u8], c: usize, s: usize, t: usize, d: usize) -> u8
     0
 }
 
+// Whether the record from a byte on is a constraint.
+fn stands(bytes: &[u8], i: usize, s: usize, t: usize, d: usize) -> bool
+    requires { ⌜ i + 4 ≤ length (now bytes) ⌝ }
+    ensures { λ r. ⌜ r ≡ isSome (decode s t d (part i 4 (now (bytes .entry)))) ⌝ }
+{
+    let Decoded::Constraint(_) = from(bytes, i, s, t, d) else {
+        return false;
+    };
+    true
+}
+
+// Whether every record is a constraint: a reader goes from one to the next, and stops at the first that is none.
+fn all_stand(bytes: &[u8], c: usize, s: usize, t: usize, d: usize) -> bool
+    requires { ⌜ (4 * c ≡ length (now bytes)) × (c ≤ 64) ⌝ }
+    ensures { λ r. ⌜ r ≡ isSome (collect (decode s t d) (pieces c 4 (now (bytes .entry)))) ⌝ }
+{
+    let mut r = Reader {
+        bytes,
+        at: 0,
+        number: 0,
+    };
+    for _ in 0..c {
+        if !stands(r.bytes, r.at, s, t, d) {
+            return false;
+        }
+        r = reader::next(r, 4);
+    }
+    true
+}
+
 // 7, 8, or 0 for no refusal: "Refusal 8 is looked for only when every record has passed 7."
 pub fn check(bytes: &[u8], c: usize, s: usize, t: usize, d: usize) -> u8
     requires { ⌜ (4 * c ≡ length (now bytes)) × (c ≤ 64) ⌝ }
     ensures { λ r. ⌜ r ≡ refusalOf s t d (pieces c 4 (now (bytes .entry))) ⌝ }
 {
-    for j in 0..c {
-        let Decoded::Constraint(_) = at(bytes, j, s, t, d) else {
-            return 7;
-        };
+    if !all_stand(bytes, c, s, t, d) {
+        return 7;
     }
     repeated(bytes, c, s, t, d)
 }
