@@ -2,9 +2,8 @@
 # What is expected stands here by hand. `python3 tests/edges.py --write` lays the lists out as the standard input and output of the crate `edges`,
 # which the gate runs; without `--write` it checks that both are these lists.
 import sys
-from pathlib import Path
+from laid import stands
 
-CRATE = Path(__file__).resolve().parent.parent / "crates" / "edges"
 MARK = 7  # in every lent word before the call, where no table is given
 SETTLE = 2**32 - 1  # the call Settle in a list of calls
 
@@ -371,17 +370,11 @@ def listing():
 
 
 def main():
-    pairs = list(zip((CRATE / "stdin", CRATE / "stdout"), listing()))
-    if "--write" in sys.argv:
-        for path, content in pairs:
-            path.write_bytes(content)
-    wrong = [path.name for path, content in pairs if not path.is_file() or path.read_bytes() != content]
-    for name in wrong:
-        print(f"edges: crates/edges/{name} is not the lists of tests/edges.py")
-    if not wrong:
-        counts = ((EDGES, "files"), (STEPS, "steps"), (SETTLES, "settlings"), (SEARCHES, "searches"), (LISTS, "lists of calls"))
-        print("edges: " + ", ".join(f"{len(cases)} {name}" for cases, name in counts) + " stand in crates/edges")
-    return 1 if wrong else 0
+    if not stands("edges", listing()):
+        return 1
+    counts = ((EDGES, "files"), (STEPS, "steps"), (SETTLES, "settlings"), (SEARCHES, "searches"), (LISTS, "lists of calls"))
+    print("edges: " + ", ".join(f"{len(cases)} {name}" for cases, name in counts) + " stand in crates/edges")
+    return 0
 
 
 if __name__ == "__main__":

@@ -4,9 +4,9 @@
 import sys
 from pathlib import Path
 
-ROOT = Path(__file__).resolve().parent.parent
-CRATE = ROOT / "crates" / "nodes"
-sys.path.insert(0, str(ROOT / "bench"))
+from laid import stands
+
+sys.path.insert(0, str(Path(__file__).resolve().parent.parent / "bench"))
 from problems import Problem, checked, clash, codes, no_clash, pigeons
 from search import BUDGET, case
 
@@ -42,16 +42,10 @@ def listing():
 
 
 def main():
-    pairs = list(zip((CRATE / "stdin", CRATE / "stdout"), listing()))
-    if "--write" in sys.argv:
-        for path, content in pairs:
-            path.write_bytes(content)
-    wrong = [path.name for path, content in pairs if not path.is_file() or path.read_bytes() != content]
-    for name in wrong:
-        print(f"nodes: crates/nodes/{name} is not the list of tests/nodes.py")
-    if not wrong:
-        print(f"nodes: {len(CASES) + 1} searches stand in crates/nodes")
-    return 1 if wrong else 0
+    if not stands("nodes", listing()):
+        return 1
+    print(f"nodes: {len(CASES) + 1} searches stand in crates/nodes")
+    return 0
 
 
 sys.exit(main())
