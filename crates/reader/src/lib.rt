@@ -1,9 +1,10 @@
 // A reader over lent bytes that remembers its place, and the number that it read last. It is handed back at the next place, so a run of reads is a run of
-// readers. The struct holds a reference, so the proof of each function over it is a walk by hand: `next` takes it apart, and leaves the work to `number_at`.
+// readers. The struct holds a reference, so the proof of each function over it is a walk by hand: `next` and `left` take it apart and leave the work to
+// `number_at` and `left_at`, and `record` hands it to `next`.
 //
 // Assumes nothing. `requires` asks that the bytes are there, and that the number fits.
 ghost use mathlib.Core.Path.{_≡_};
-ghost use Prim.Native.Nat.{_+_, _≤_};
+ghost use Prim.Native.Nat.{_+_, _-_, _≤_};
 ghost use lib.ListN.{length};
 ghost use Rattle.model.specs.Layout.{little, part};
 ghost use Rattle.reader.specs.Places.{after};
@@ -27,6 +28,16 @@ pub fn number_at(bytes: &[u8], at: usize, n: usize) -> u32
     r
 }
 
+// How many bytes there are from a place on. Past the end there are none.
+pub fn left_at(bytes: &[u8], at: usize) -> usize
+    ensures { λ n. ⌜ n ≡ length (now (bytes .entry)) - at ⌝ }
+{
+    if bytes.len() <= at {
+        return 0;
+    }
+    bytes.len() - at
+}
+
 // The next number of n bytes is read, and the place is behind it.
 pub fn next<'a>(r: Reader<'a>, n: usize) -> Reader<'a>
     requires { ⌜ (r .at + n ≤ length (now (r .bytes))) × (n ≤ 4) ⌝ }
@@ -38,4 +49,19 @@ pub fn next<'a>(r: Reader<'a>, n: usize) -> Reader<'a>
         at: r.at + n,
         number,
     }
+}
+
+// The next record is read: the number of its four bytes.
+pub fn record<'a>(r: Reader<'a>) -> Reader<'a>
+    requires { ⌜ r .at + 4 ≤ length (now (r .bytes)) ⌝ }
+    ensures { λ s. ⌜ s ≡ after (r .entry) 4 ⌝ }
+{
+    next(r, 4)
+}
+
+// What is left: how many bytes there are from the place on.
+pub fn left<'a>(r: Reader<'a>) -> usize
+    ensures { λ n. ⌜ n ≡ length (now (r .entry .bytes)) - r .entry .at ⌝ }
+{
+    left_at(r.bytes, r.at)
 }

@@ -4,7 +4,7 @@ use mathlib.Core.Logic.{_≢_}
 use mathlib.Core.Bool.{Bool, true, false, cond, _&&_, _||_}
 use mathlib.Core.List.{List, [], _∷_}
 use mathlib.Core.Option.{Option, none, some, bind}
-use Prim.Native.Nat.{ℕ, zero, suc, _+_, _≤_}
+use Prim.Native.Nat.{ℕ, zero, suc, _+_, _*_, _/_, _%_, _≤_, _<_}
 use native.Mathlib.Omega.{arith}
 use lib.Dec.{eqb, ltb}
 use lib.ListN.{length, getD}
@@ -12,13 +12,13 @@ use borrow.Author.Tests.{le-ltb, ne-eqb}
 use Rattle.model.specs.Lists.{any, given}
 use Rattle.model.specs.Domains.{str, num, sameVariable}
 use Rattle.model.specs.Constraints.{Constraint}
-use Rattle.model.specs.Layout.{part}
+use Rattle.model.specs.Layout.{Bytes, little, part}
 use Rattle.model.specs.Reading.{Sort, string, number, machine, unused, names, Kind, kinds, kindOf, decode, repeats}
-use Rattle.little.proofs.LittleLaws.{part-next}
+use Rattle.little.proofs.LittleLaws.{part-next, little-four}
 use Rattle.records.specs.declared.Record.{Record}
 use Rattle.records.specs.declared.Decoded.{Decoded}
 use Rattle.records.specs.declared.Decoded.the-variants.{Constraint as One, NotOne}
-use Rattle.records.specs.Records.{constraintOf, decodedOf}
+use Rattle.records.specs.Records.{bytesOf, constraintOf, decodedOf}
 
 -- ---- what decoding answered
 
@@ -41,6 +41,28 @@ four-bytes i bs h =
 pub of-bytes : (s t d i : ℕ) (bs : List ℕ) (o : Option Constraint) → i + 4 ≤ length bs
     → o ≡ decode s t d (getD bs i 0 ∷ getD bs (i + 1) 0 ∷ getD bs (i + 2) 0 ∷ getD bs (i + 3) 0 ∷ []) → o ≡ decode s t d (part i 4 bs)
 of-bytes s t d i bs o h e = e ∙ ap (decode s t d) (four-bytes i bs h)
+
+-- the lowest byte of a number, and the four bytes of one
+lowest : (a m : ℕ) → a < 256 → (a + 256 * m) % 256 ≡ a
+lowest a m h = omega arith
+
+digits : (n a b c d : ℕ) → a < 256 → b < 256 → c < 256 → d < 256 → a + 256 * (b + 256 * (c + 256 * d)) ≡ n → bytesOf n ≡ a ∷ b ∷ c ∷ d ∷ []
+unfolding bytesOf
+digits n a b c d ha hb hc hd e =
+    let f : n / 256 ≡ b + 256 * (c + 256 * d) = omega arith in
+    let g : n / 65536 ≡ c + 256 * d = omega arith in
+    let h : n / 16777216 ≡ d + 256 * 0 = omega arith in
+    let p : n % 256 ≡ a = omega arith in
+    let q : n / 256 % 256 ≡ b = ap (λ (m : ℕ). m % 256) f ∙ lowest b (c + 256 * d) hb in
+    let r : n / 65536 % 256 ≡ c = ap (λ (m : ℕ). m % 256) g ∙ lowest c d hc in
+    let s : n / 16777216 % 256 ≡ d = ap (λ (m : ℕ). m % 256) h ∙ lowest d 0 hd in
+    rw (p, q, r, s) refl
+
+-- the number that a record's bytes are has these bytes
+pub of-number : (i : ℕ) (bs : List ℕ) → Bytes bs → i + 4 ≤ length bs → bytesOf (little (part i 4 bs)) ≡ part i 4 bs
+of-number i bs small h =
+    digits (little (part i 4 bs)) (getD bs i 0) (getD bs (i + 1) 0) (getD bs (i + 2) 0) (getD bs (i + 3) 0) (small i) (small (i + 1)) (small (i + 2))
+    (small (i + 3)) (little-four i bs) ∙ four-bytes i bs h
 
 -- ---- its kind
 

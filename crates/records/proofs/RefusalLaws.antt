@@ -4,7 +4,7 @@ use mathlib.Core.Bool.{true, false, true≢false}
 use mathlib.Core.List.{List, []}
 use mathlib.Core.Option.{Option, none, some, Option·none-ne-some, Option·some-injective}
 use mathlib.Core.Logic.{⊎-elim}
-use Prim.Native.Nat.{ℕ, _+_, _*_, _<_, _≤_}
+use Prim.Native.Nat.{ℕ, _+_, _*_, _/_, _<_, _≤_}
 use native.Mathlib.Nat.{eq-or-lt-of-le}
 use native.Mathlib.Omega.{arith}
 use lib.ListN.{length, getD}
@@ -106,6 +106,10 @@ module _ (s t d c : ℕ) (bytes : List ℕ) where
   pub none-fails : (j : ℕ) → c ≤ j → Decodes s t d bytes j → true ≡ isSome (collect (decode s t d) (pieces c 4 bytes))
   unfolding isSome
   none-fails j q p = rw (collected j q p .1)
+
+  -- bytes of c records have c whole records
+  pub counted : 4 * c ≡ length bytes → isSome (collect (decode s t d) (pieces (length bytes / 4) 4 bytes)) ≡ isSome (collect (decode s t d) (pieces c 4 bytes))
+  counted e = let f : length bytes / 4 ≡ c = omega arith in ap (λ (n : ℕ). isSome (collect (decode s t d) (pieces n 4 bytes))) f
 
   pub seven : isSome (collect (decode s t d) (pieces c 4 bytes)) ≡ false → 7 ≡ refusalOf s t d (pieces c 4 bytes)
   unfolding refusalOf refusalIn

@@ -1,8 +1,8 @@
 -- What the code's records mean in the model's words, and which of the refusals 7 and 8 a list of records has. Assumes nothing.
 use mathlib.Core.Bool.{Bool, true, false, cond}
-use mathlib.Core.List.{List}
+use mathlib.Core.List.{List, [], _∷_}
 use mathlib.Core.Option.{Option, none, some}
-use Prim.Native.Nat.{ℕ}
+use Prim.Native.Nat.{ℕ, _/_, _%_}
 use Rattle.model.specs.Lists.{any, collect}
 use Rattle.model.specs.Constraints.{Constraint, eq, neq, rev, cat, sub, len, regular, variables}
 use Rattle.model.specs.Reading.{decode, repeats}
@@ -10,6 +10,10 @@ use Rattle.records.specs.declared.Record.{Record}
 use Rattle.records.specs.declared.Record.the-variants.{Eq, Neq, Rev, Cat, Sub, Len, Regular}
 use Rattle.records.specs.declared.Decoded.{Decoded}
 use Rattle.records.specs.declared.Decoded.the-variants.{Constraint as One, NotOne}
+
+-- the four bytes of a number, the lowest first
+unfoldable pub bytesOf : ℕ → List ℕ
+bytesOf n = n % 256 ∷ n / 256 % 256 ∷ n / 65536 % 256 ∷ n / 16777216 % 256 ∷ []
 
 -- the constraint that a record of the code is
 unfoldable pub constraintOf : Record → Constraint

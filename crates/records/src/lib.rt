@@ -7,14 +7,14 @@ ghost use mathlib.Core.Path.{_≡_};
 ghost use mathlib.Core.Bool.{_&&_};
 ghost use mathlib.Core.List.{List, [], _∷_};
 ghost use mathlib.Core.Option.{some};
-ghost use Prim.Native.Nat.{_+_, _*_, _≤_};
+ghost use Prim.Native.Nat.{_+_, _*_, _/_, _≤_};
 ghost use lib.Dec.{ltb};
 ghost use lib.ListN.{length};
 ghost use Rattle.model.specs.Lists.{given, collect};
 ghost use Rattle.model.specs.Constraints.{Constraint, variables};
 ghost use Rattle.model.specs.Layout.{part};
 ghost use Rattle.model.specs.Reading.{decode, repeats, pieces};
-ghost use Rattle.records.specs.Records.{constraintOf, decodedOf, isSome, repeatedIn, refusalOf};
+ghost use Rattle.records.specs.Records.{constraintOf, decodedOf, bytesOf, isSome, repeatedIn, refusalOf};
 
 // The kinds 1 to 7 with their arguments.
 pub enum Record {
@@ -75,20 +75,13 @@ pub fn decode(kind: u8, x: u8, y: u8, z: u8, s: usize, t: usize, d: usize) -> De
     }
 }
 
-// The record from a byte on.
-fn from(bytes: &[u8], i: usize, s: usize, t: usize, d: usize) -> Decoded
-    requires { ⌜ i + 4 ≤ length (now bytes) ⌝ }
-    ensures { λ r. ⌜ decodedOf r ≡ decode s t d (part i 4 (now (bytes .entry))) ⌝ }
-{
-    decode(bytes[i], bytes[i + 1], bytes[i + 2], bytes[i + 3], s, t, d)
-}
-
 // Record j of the constraint bytes.
 pub fn at(bytes: &[u8], j: usize, s: usize, t: usize, d: usize) -> Decoded
     requires { ⌜ 4 * j + 4 ≤ length (now bytes) ⌝ }
     ensures { λ r. ⌜ decodedOf r ≡ decode s t d (part (4 * j) 4 (now (bytes .entry))) ⌝ }
 {
-    from(bytes, 4 * j, s, t, d)
+    let i = 4 * j;
+    decode(bytes[i], bytes[i + 1], bytes[i + 2], bytes[i + 3], s, t, d)
 }
 
 // Whether a constraint names one string twice.
@@ -122,32 +115,34 @@ fn repeated(bytes: &[u8], c: usize, s: usize, t: usize, d: usize) -> u8
     0
 }
 
-// Whether the record from a byte on is a constraint.
-fn stands(bytes: &[u8], i: usize, s: usize, t: usize, d: usize) -> bool
-    requires { ⌜ i + 4 ≤ length (now bytes) ⌝ }
-    ensures { λ r. ⌜ r ≡ isSome (decode s t d (part i 4 (now (bytes .entry)))) ⌝ }
+// Whether a record is a constraint, by the number of its four bytes.
+fn stands(number: u32, s: usize, t: usize, d: usize) -> bool
+    ensures { λ r. ⌜ r ≡ isSome (decode s t d (bytesOf number)) ⌝ }
 {
-    let Decoded::Constraint(_) = from(bytes, i, s, t, d) else {
+    let kind = (number % 256) as u8;
+    let x = (number / 256 % 256) as u8;
+    let y = (number / 65536 % 256) as u8;
+    let z = (number / 16777216 % 256) as u8;
+    let Decoded::Constraint(_) = decode(kind, x, y, z, s, t, d) else {
         return false;
     };
     true
 }
 
-// Whether every record is a constraint: a reader goes from one to the next, and stops at the first that is none.
-fn all_stand(bytes: &[u8], c: usize, s: usize, t: usize, d: usize) -> bool
-    requires { ⌜ (4 * c ≡ length (now bytes)) × (c ≤ 64) ⌝ }
-    ensures { λ r. ⌜ r ≡ isSome (collect (decode s t d) (pieces c 4 (now (bytes .entry)))) ⌝ }
+// Whether every whole record is a constraint: a reader takes one after the other while four bytes are left, and the first that is none stops the reading.
+fn all_stand(bytes: &[u8], s: usize, t: usize, d: usize) -> bool
+    ensures { λ r. ⌜ r ≡ isSome (collect (decode s t d) (pieces (length (now (bytes .entry)) / 4) 4 (now (bytes .entry)))) ⌝ }
 {
     let mut r = Reader {
         bytes,
         at: 0,
         number: 0,
     };
-    for _ in 0..c {
-        if !stands(r.bytes, r.at, s, t, d) {
+    while reader::left(r) >= 4 {
+        r = reader::record(r);
+        if !stands(r.number, s, t, d) {
             return false;
         }
-        r = reader::next(r, 4);
     }
     true
 }
@@ -157,7 +152,7 @@ pub fn check(bytes: &[u8], c: usize, s: usize, t: usize, d: usize) -> u8
     requires { ⌜ (4 * c ≡ length (now bytes)) × (c ≤ 64) ⌝ }
     ensures { λ r. ⌜ r ≡ refusalOf s t d (pieces c 4 (now (bytes .entry))) ⌝ }
 {
-    if !all_stand(bytes, c, s, t, d) {
+    if !all_stand(bytes, s, t, d) {
         return 7;
     }
     repeated(bytes, c, s, t, d)

@@ -1,10 +1,14 @@
+use Prim.Native.Nat.{_*_}
 use Rattle.records.proofs.RecordLaws.{of-bytes}
 use borrow.Author.Needs.{needs}
-use Rattle.records.proofs.from.Statement.{statement}
-use Rattle.records.proofs.from.Tie as tie
-use Rattle.records.proofs.from.Reads as reads
-use Rattle.records.proofs.from.Lts as lts
+use Rattle.records.proofs.at.Statement.{statement}
+use Rattle.records.proofs.at.Tie as tie
+use Rattle.records.proofs.at.Reads as reads
+use Rattle.records.proofs.at.Lts as lts
 use Rattle.records.proofs.decode.Reads as decode-reads
+
+mul-i : tie.Need-mul-i
+mul-i c = search needs
 
 shared-slice-read-decode : tie.Need-shared-slice-read-decode
 shared-slice-read-decode c = search needs
@@ -33,12 +37,13 @@ decode-requires c κs = search needs
 returns : tie.Need-returns
 returns c =
     let a = c .before .before .before .before .before .before .args in
-    of-bytes (a .s) (a .t) (a .d) (a .i) (a .bytes .now) _ (search needs) (c .decode .ensures)
+    of-bytes (a .s) (a .t) (a .d) (4 * a .j) (a .bytes .now) _ (search needs) (c .decode .ensures)
 
-pub from-spec : {M : Type 1} → statement M
-from-spec =
+pub at-spec : {M : Type 1} → statement M
+at-spec =
     tie.close
     (tie.spec
+    mul-i
     shared-slice-read-decode
     add-decode
     shared-slice-read-decode-2
