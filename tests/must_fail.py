@@ -3,6 +3,8 @@
 import sys
 from promises import ROOT, edits
 
+# how the prover says that a fact fails: in a proof that is written, and in one that it finds by itself
+FAILED = (": error: ", "`search` does not close ")
 # how the prover says that a text, and not a fact, is at fault
 UNFIT = ("that can be named from here", "is not in scope", "not found", "has no `Need-")
 
@@ -11,7 +13,7 @@ def reason(crate, label, facts):
     log = ROOT / "target" / "must-fail" / crate / label / ".log"
     if not log.is_file():
         return "left no log"
-    errors = [line for line in log.read_text().splitlines() if ": error: " in line]
+    errors = [line for line in log.read_text().splitlines() if any(words in line for words in FAILED)]
     unfit = [line for line in errors if any(words in line for words in UNFIT)]
     if unfit:
         return "is refused for its text: " + unfit[0]

@@ -1,0 +1,129 @@
+-- What each function of the C interface returns and leaves, by what the entry below it answered. Assumes nothing.
+use mathlib.Core.Path.{_≡_, refl, sym, ap, _∙_}
+use mathlib.Core.Bool.{Bool, true, false}
+use mathlib.Core.List.{List}
+use Prim.Native.Nat.{ℕ}
+use mir.Val.{boolByte}
+use Rattle.model.specs.Tree.{Outcome, found, none, spent}
+use Rattle.model.specs.Replies.{Reply, refused, answered, leaves}
+use Rattle.model.specs.Operations.{Header, Stepped, Settlement, Searched}
+use Rattle.cobleskeg.specs.declared.Header.{Header as Counts}
+use Rattle.cobleskeg.specs.declared.Rounds.{Rounds}
+use Rattle.cobleskeg.specs.declared.ReadAnswer.{ReadAnswer}
+use Rattle.cobleskeg.specs.declared.ReadAnswer.the-variants as ofRead
+use Rattle.cobleskeg.specs.declared.UnpackAnswer.{UnpackAnswer}
+use Rattle.cobleskeg.specs.declared.UnpackAnswer.the-variants as ofUnpack
+use Rattle.cobleskeg.specs.declared.StepAnswer.{StepAnswer}
+use Rattle.cobleskeg.specs.declared.StepAnswer.the-variants as ofStep
+use Rattle.cobleskeg.specs.declared.SettleAnswer.{SettleAnswer}
+use Rattle.cobleskeg.specs.declared.SettleAnswer.the-variants as ofSettle
+use Rattle.cobleskeg.specs.declared.SearchAnswer.{SearchAnswer}
+use Rattle.cobleskeg.specs.declared.SearchAnswer.the-variants as ofSearch
+use Rattle.cobleskeg.specs.Answers.{headerOf, readReply, unpackReply, stepReply, settleReply, searchReply}
+use Rattle.cobleskeg_c.specs.Numbers.{refusal, writes, bitOf, outcomeNumber, outcomeNodes}
+use Rattle.cobleskeg_c.proofs.NumberLaws.{refused-number, refused-stays, answered-number, answered-written}
+
+-- ---- Read
+
+module _ (a : ReadAnswer) (R : Reply Header) (told : readReply a ≡ R) where
+  -- what it returns, and the five counts afterwards, which were there before
+  abbrev ReadLeaves : ℕ → (k s t d c k' s' t' d' c' : ℕ) → Type 0
+  ReadLeaves n k s t d c k' s' t' d' c' =
+      (n ≡ refusal R)
+      × ((k' ≡ writes (λ (h : Header). h .symbols) R k)
+      × ((s' ≡ writes (λ (h : Header). h .strings) R s)
+      × ((t' ≡ writes (λ (h : Header). h .numbers) R t)
+      × ((d' ≡ writes (λ (h : Header). h .automata) R d)
+      × (c' ≡ writes (λ (h : Header). h .constraints) R c)))))
+
+  pub read-refused : (n : ℕ) → a ≡ ofRead.Refused n → (k s t d c : ℕ) → ReadLeaves n k s t d c k s t d c
+  unfolding readReply
+  read-refused n q k s t d c =
+      let e = ap readReply (sym q) ∙ told in
+      let stays = refused-stays R n e in
+      (refused-number R n e, (stays _ k, (stays _ s, (stays _ t, (stays _ d, stays _ c)))))
+
+  pub read-counted : (h : Counts) → a ≡ ofRead.Counts h → (k s t d c : ℕ)
+      → ReadLeaves 0 k s t d c (h .symbols) (h .strings) (h .numbers) (h .automata) (h .constraints)
+  unfolding readReply headerOf
+  read-counted h q k s t d c =
+      let e = ap readReply (sym q) ∙ told in
+      let written = answered-written R (headerOf h) e in
+      (answered-number R _ e, (written _ k, (written _ s, (written _ t, (written _ d, written _ c)))))
+
+-- ---- Unpack
+
+module _ (U : List ℕ) (a : UnpackAnswer) (R : Reply (List ℕ)) (told : unpackReply U a ≡ R) where
+  pub unpack-refused : (n : ℕ) → a ≡ ofUnpack.Refused n → n ≡ refusal R
+  unfolding unpackReply
+  unpack-refused n q = refused-number R n (ap (unpackReply U) (sym q) ∙ told)
+
+  pub unpack-written : a ≡ ofUnpack.Unpacked → 0 ≡ refusal R
+  unfolding unpackReply
+  unpack-written q = answered-number R U (ap (unpackReply U) (sym q) ∙ told)
+
+-- ---- Step
+
+module _ (U : List ℕ) (a : StepAnswer) (R : Reply Stepped) (told : stepReply U a ≡ R) (n old : ℕ) where
+  pub step-refused : a ≡ ofStep.Refused n → (n ≡ refusal R) × (old ≡ writes (λ (s : Stepped). s .struck) R old)
+  unfolding stepReply
+  step-refused q = let e = ap (stepReply U) (sym q) ∙ told in (refused-number R n e, refused-stays R n e _ old)
+
+  pub step-struck : a ≡ ofStep.Struck n → (0 ≡ refusal R) × (n ≡ writes (λ (s : Stepped). s .struck) R old)
+  unfolding stepReply
+  step-struck q = let e = ap (stepReply U) (sym q) ∙ told in (answered-number R _ e, answered-written R _ e _ old)
+
+-- ---- Settle
+
+-- the cast makes 1 of true
+byte-bit : (b : Bool) → boolByte b ≡ bitOf b
+unfolding bitOf
+byte-bit true = refl
+byte-bit false = refl
+
+module _ (U : List ℕ) (a : SettleAnswer) (R : Reply Settlement) (told : settleReply U a ≡ R) (rounds every : ℕ) where
+  -- what it returns, and the two numbers afterwards, which were `rounds` and `every` before
+  abbrev SettleLeaves : ℕ → ℕ → ℕ → Type 0
+  SettleLeaves n rounds' every' =
+      (n ≡ refusal R) × ((rounds' ≡ writes (λ (s : Settlement). s .rounds) R rounds) × (every' ≡ writes (λ (s : Settlement). bitOf (s .everyValue)) R every))
+
+  pub settle-refused : (n : ℕ) → a ≡ ofSettle.Refused n → SettleLeaves n rounds every
+  unfolding settleReply
+  settle-refused n q = let e = ap (settleReply U) (sym q) ∙ told in (refused-number R n e, (refused-stays R n e _ rounds, refused-stays R n e _ every))
+
+  pub settle-settled : (s : Rounds) → a ≡ ofSettle.Settled s → SettleLeaves 0 (s .count) (boolByte (s .«every_value»))
+  unfolding settleReply
+  settle-settled s q =
+      let e = ap (settleReply U) (sym q) ∙ told in
+      (answered-number R _ e, (answered-written R _ e _ rounds, byte-bit _ ∙ answered-written R _ e _ every))
+
+-- ---- Search
+
+module _ (S U : List ℕ) (a : SearchAnswer) (R : Reply Searched) (told : searchReply S U a ≡ R) (outcome nodes n : ℕ) where
+  -- what it returns, and the two numbers afterwards, which were `outcome` and `nodes` before
+  abbrev SearchLeaves : ℕ → ℕ → ℕ → Type 0
+  SearchLeaves m outcome' nodes' =
+      (m ≡ refusal R)
+      × ((outcome' ≡ writes (λ (a : Searched). outcomeNumber (a .outcome)) R outcome)
+      × (nodes' ≡ writes (λ (a : Searched). outcomeNodes (a .outcome)) R nodes))
+
+  pub search-refused : a ≡ ofSearch.Refused n → SearchLeaves n outcome nodes
+  unfolding searchReply
+  search-refused q =
+      let e = ap (searchReply S U) (sym q) ∙ told in (refused-number R n e, (refused-stays R n e _ outcome, refused-stays R n e _ nodes))
+
+  -- with any of the three outcomes
+  ends : (o : Outcome) → answered (record { outcome = o; room = S; table = U }) ≡ R → SearchLeaves 0 (outcomeNumber o) (outcomeNodes o)
+  ends o e = (answered-number R _ e, (answered-written R _ e _ outcome, answered-written R _ e _ nodes))
+
+  pub search-found : a ≡ ofSearch.Found n → SearchLeaves 0 1 n
+  unfolding searchReply outcomeNumber outcomeNodes
+  search-found q = ends (found n) (ap (searchReply S U) (sym q) ∙ told)
+
+  pub search-none : a ≡ ofSearch.None n → SearchLeaves 0 2 n
+  unfolding searchReply outcomeNumber outcomeNodes
+  search-none q = ends (none n) (ap (searchReply S U) (sym q) ∙ told)
+
+  pub search-spent : a ≡ ofSearch.Spent n → SearchLeaves 0 3 n
+  unfolding searchReply outcomeNumber outcomeNodes
+  search-spent q = ends (spent n) (ap (searchReply S U) (sym q) ∙ told)

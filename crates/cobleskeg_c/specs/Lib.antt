@@ -1,0 +1,2 @@
+-- The definitions that the contracts of the C interface cite.
+pub mod Numbers

@@ -1,0 +1,29 @@
+-- The numbers that stand for answers in the C interface. Assumes nothing.
+use mathlib.Core.Bool.{Bool, cond}
+use Prim.Native.Nat.{ℕ}
+use Rattle.model.specs.Tree.{Outcome, found, none, spent}
+use Rattle.model.specs.Replies.{Reply, refused, answered}
+
+-- the paper's number of the refusal, and 0 for none
+unfoldable pub refusal : {A : Type 0} → Reply A → ℕ
+refusal (refused n) = n
+refusal (answered a) = 0
+
+-- a number behind a reference after the call: "A refusal writes nothing"
+unfoldable pub writes : {A : Type 0} → (A → ℕ) → Reply A → ℕ → ℕ
+writes f (refused n) old = old
+writes f (answered a) old = f a
+
+unfoldable pub bitOf : Bool → ℕ
+bitOf b = cond b 1 0
+
+unfoldable pub outcomeNumber : Outcome → ℕ
+outcomeNumber (found n) = 1
+outcomeNumber (none n) = 2
+outcomeNumber (spent n) = 3
+
+-- the count of the nodes visited
+unfoldable pub outcomeNodes : Outcome → ℕ
+outcomeNodes (found n) = n
+outcomeNodes (none n) = n
+outcomeNodes (spent n) = n
