@@ -1,0 +1,139 @@
+//! Can two parts of a template set ever produce one name? The entries of the proved library, for programs in Rust.
+//!
+//! A problem file lists strings and numbers by their domains, and constraints between them; [`solve`] gives its first solution, or says that there is none.
+//!
+//! ```no_run
+//! use cobleskeg::{solve, Answer};
+//!
+//! let file = std::fs::read("templates.problem")?;
+//! match solve(&file, 65_536)? {
+//!     Answer::Found { strings, numbers, .. } => println!("a clash: {strings:?} {numbers:?}"),
+//!     Answer::None { .. } => println!("no clash"),
+//!     Answer::Spent { nodes } => println!("not known after {nodes} nodes"),
+//! }
+//! # Ok::<(), Box<dyn std::error::Error>>(())
+//! ```
+//!
+//! The other functions are the library's own entries, each on buffers that the caller lends; none allocates.
+//!
+//! A *table* has 64 s + t words for s strings and t numbers. A string's row is 64 words: bit l of word 0 allows the length l, bit a of word i (1 to 63) allows
+//! the symbol a at place i. A number has one word: bit v allows the value v. A [`Refusal`] leaves every buffer as it was.
+
+mod entries;
+mod refusal;
+mod solve;
+
+pub use refusal::Refusal;
+pub use solve::{solve, Answer};
+
+/// The number that stands for Settle in a list of calls, see [`perform`].
+pub const SETTLE: u32 = u32::MAX;
+
+/// The bytes of the largest problem file.
+pub const LARGEST_FILE: usize = 25_024;
+
+/// The words of the largest table.
+pub const LARGEST_TABLE: usize = 1_040;
+
+/// The counts of a problem file.
+#[derive(Clone, Copy, Debug, Default, PartialEq, Eq)]
+pub struct Counts {
+    pub symbols: usize,
+    pub strings: usize,
+    pub numbers: usize,
+    pub automata: usize,
+    pub constraints: usize,
+}
+
+impl Counts {
+    /// The words of a table of this problem.
+    pub fn words(&self) -> usize {
+        64 * self.strings + self.numbers
+    }
+
+    /// How many steps there are: one for each constraint, then one for each string.
+    pub fn steps(&self) -> usize {
+        self.constraints + self.strings
+    }
+}
+
+/// What [`settle`] answers.
+#[derive(Clone, Copy, Debug, PartialEq, Eq)]
+pub struct Settled {
+    /// The rounds, the last included, which struck nothing.
+    pub rounds: u32,
+    /// Whether every variable still has a value.
+    pub every_value: bool,
+}
+
+/// What [`search`] answers, each with the count of nodes visited.
+#[derive(Clone, Copy, Debug, PartialEq, Eq)]
+pub enum Outcome {
+    /// The answer table holds the first solution.
+    Found(u32),
+    /// There is no solution; the count is the whole tree's.
+    None(u32),
+    /// The budget ended first; the count is the budget.
+    Spent(u32),
+}
+
+// A slice's pointer is never null and always aligned, also where the slice is empty, and a slice that may be written is no part of another: with that, each
+// call below meets all that the header asks of a caller.
+
+/// The counts of a problem file.
+///
+/// Refuses 1 to 8.
+pub fn read(file: &[u8]) -> Result<Counts, Refusal> {
+    let mut counts = Counts::default();
+    let Counts { symbols, strings, numbers, automata, constraints } = &mut counts;
+    Refusal::check(unsafe { entries::cobleskeg_read(file.as_ptr(), file.len(), symbols, strings, numbers, automata, constraints) })?;
+    Ok(counts)
+}
+
+/// Writes the file's table into `table`.
+///
+/// Refuses 1 to 9.
+pub fn unpack(file: &[u8], table: &mut [u64]) -> Result<(), Refusal> {
+    Refusal::check(unsafe { entries::cobleskeg_unpack(file.as_ptr(), file.len(), table.as_mut_ptr(), table.len()) })
+}
+
+/// Narrows `table` by constraint `j`, or trims string `j - constraints` where `j` is not below the count of constraints. Answers the number of bits struck;
+/// what is left has support.
+///
+/// Refuses 1 to 11.
+pub fn step(file: &[u8], j: usize, table: &mut [u64]) -> Result<u32, Refusal> {
+    let mut struck = 0;
+    Refusal::check(unsafe { entries::cobleskeg_step(file.as_ptr(), file.len(), j, table.as_mut_ptr(), table.len(), &mut struck) })?;
+    Ok(struck)
+}
+
+/// Rounds of steps on `table`, each string trimmed and then each constraint taken in order, until a round strikes nothing.
+///
+/// Refuses 1 to 10.
+pub fn settle(file: &[u8], table: &mut [u64]) -> Result<Settled, Refusal> {
+    let (mut rounds, mut every_value) = (0, 0);
+    Refusal::check(unsafe { entries::cobleskeg_settle(file.as_ptr(), file.len(), table.as_mut_ptr(), table.len(), &mut rounds, &mut every_value) })?;
+    Ok(Settled { rounds, every_value: every_value != 0 })
+}
+
+/// Searches the file's problem for its first solution, within a budget of nodes. `room` has at least three times the words of `table`; so many of it are 0
+/// afterwards, and those beyond are untouched. `table` is written only by [`Outcome::Found`].
+///
+/// Refuses 1 to 8, then 12 and 13.
+pub fn search(file: &[u8], budget: u32, room: &mut [u64], table: &mut [u64]) -> Result<Outcome, Refusal> {
+    let (mut outcome, mut nodes) = (0, 0);
+    let (room_at, room_words, table_at, words) = (room.as_mut_ptr(), room.len(), table.as_mut_ptr(), table.len());
+    Refusal::check(unsafe { entries::cobleskeg_search(file.as_ptr(), file.len(), budget, room_at, room_words, table_at, words, &mut outcome, &mut nodes) })?;
+    Ok(match outcome {
+        1 => Outcome::Found(nodes),
+        2 => Outcome::None(nodes),
+        3 => Outcome::Spent(nodes),
+        other => unreachable!("the header has no outcome {other}"),
+    })
+}
+
+/// A list of calls on one table, one after the other: a number is that of a step, or [`SETTLE`]. A call that is refused leaves `table` as it was, and the list
+/// goes on; so nothing is refused here.
+pub fn perform(file: &[u8], list: &[u32], table: &mut [u64]) {
+    unsafe { entries::cobleskeg_perform(file.as_ptr(), file.len(), list.as_ptr(), list.len(), table.as_mut_ptr(), table.len()) }
+}

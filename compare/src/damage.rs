@@ -1,0 +1,132 @@
+//! Damaged files: for each of the refusals 1 to 8, and for each of its clauses in document 01, a change that the file is refused for.
+
+mod parts;
+mod trailer;
+
+use crate::draft::{Draft, Laid, LIMIT, NOTHING};
+use crate::generate::record;
+use crate::random::Random;
+use crate::rules;
+
+type On<T> = Box<dyn Fn(&mut T, &mut Random) + Send + Sync>;
+
+/// What a damage is done to: the description, whose counts and distances then fit; the fields of the trailer; or the bytes.
+enum Change {
+    Draft(On<Draft>),
+    Laid(On<Laid>),
+    Bytes(On<Vec<u8>>),
+}
+
+/// A change after which this refusal applies.
+pub struct Damage {
+    pub refusal: u8,
+    change: Change,
+}
+
+fn on_draft(refusal: u8, change: impl Fn(&mut Draft, &mut Random) + Send + Sync + 'static) -> Damage {
+    Damage { refusal, change: Change::Draft(Box::new(change)) }
+}
+
+fn on_laid(refusal: u8, change: impl Fn(&mut Laid, &mut Random) + Send + Sync + 'static) -> Damage {
+    Damage { refusal, change: Change::Laid(Box::new(change)) }
+}
+
+fn on_bytes(refusal: u8, change: impl Fn(&mut Vec<u8>, &mut Random) + Send + Sync + 'static) -> Damage {
+    Damage { refusal, change: Change::Bytes(Box::new(change)) }
+}
+
+/// A problem that every damage can be done to: there is something of each sort, and no count is at its limit.
+pub fn sound(random: &mut Random) -> Draft {
+    let most = *random.pick(&[5, 5, 5, 62]);
+    let symbols = random.between(2, most);
+    let mut draft = Draft::over(symbols);
+    let (strings, numbers, automata) = if random.once_in(8) { (15, 15, 7) } else { (random.between(3, 4), random.between(1, 2), random.between(1, 2)) };
+    for _ in 0..strings {
+        let mut row = NOTHING;
+        row[0] = random.word() & random.word();
+        row[1..random.between(2, LIMIT)].iter_mut().for_each(|word| *word = random.subset(symbols, 4));
+        draft.rows.push(row);
+    }
+    draft.numbers = random.words(numbers);
+    for _ in 0..automata {
+        let states = random.between(1, 6);
+        draft.machines.push(rules::any(random, symbols, states));
+    }
+    for kind in 1..=random.between(1, 7) as u8 {
+        draft.records.extend(record(random, kind, strings, numbers, automata));
+    }
+    draft
+}
+
+/// The file with these damages. Those of a higher refusal come first, so that none undoes what a lower one did.
+pub fn damaged(random: &mut Random, mut draft: Draft, mut damages: Vec<&Damage>) -> Vec<u8> {
+    damages.sort_by_key(|damage| std::cmp::Reverse(damage.refusal));
+    for damage in &damages {
+        if let Change::Draft(change) = &damage.change {
+            change(&mut draft, random);
+        }
+    }
+    let mut laid = draft.laid();
+    for damage in &damages {
+        if let Change::Laid(change) = &damage.change {
+            change(&mut laid, random);
+        }
+    }
+    let mut bytes = laid.bytes();
+    for damage in &damages {
+        if let Change::Bytes(change) = &damage.change {
+            change(&mut bytes, random);
+        }
+    }
+    bytes
+}
+
+/// All damages.
+pub fn all() -> Vec<Damage> {
+    let mut all = trailer::all();
+    all.extend(parts::all());
+    all
+}
+
+#[cfg(test)]
+mod tests {
+    use super::*;
+
+    #[test]
+    fn the_sound_problem_is_accepted() {
+        for index in 0..500 {
+            let draft = sound(&mut Random::new(5, index));
+            assert!(second::read(&draft.bytes()).is_ok(), "index {index}");
+            assert!(draft.rows.len() < 16 && draft.numbers.len() < 16 && draft.machines.len() < 8 && draft.symbols < 63);
+        }
+    }
+
+    #[test]
+    fn each_damage_alone_has_its_refusal() {
+        let damages = all();
+        for refusal in 1..=8 {
+            assert!(damages.iter().filter(|damage| damage.refusal == refusal).count() >= 4, "refusal {refusal}");
+        }
+        for (at, damage) in damages.iter().enumerate() {
+            for index in 0..100 {
+                let random = &mut Random::new(6 + at as u64, index);
+                let draft = sound(random);
+                let file = damaged(random, draft, vec![damage]);
+                assert_eq!(second::read(&file), Err(damage.refusal), "damage {at}, index {index}");
+            }
+        }
+    }
+
+    #[test]
+    fn of_two_refusals_the_lower_comes_first() {
+        let damages = all();
+        for one in &damages {
+            for other in damages.iter().filter(|other| one.refusal < other.refusal) {
+                let random = &mut Random::new(7, 0);
+                let draft = sound(random);
+                let file = damaged(random, draft, vec![one, other]);
+                assert_eq!(second::read(&file), Err(one.refusal), "with {}", other.refusal);
+            }
+        }
+    }
+}

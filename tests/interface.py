@@ -1,0 +1,152 @@
+# The C interface, tested from outside: the C programs and the Rust crates over the archive, and the comparison with the second solver by the thousand.
+#     python3 tests/interface.py [--cases N] [--seed S]        20,000 cases of seed 1, where not said
+# It needs a C compiler and cargo, and what `rt staticlib cobleskeg_c` and `rt check clash` leave in target. All that it builds goes to target too.
+import argparse
+import os
+import re
+import subprocess
+import sys
+from pathlib import Path
+
+ROOT = Path(__file__).resolve().parent.parent
+TARGET = ROOT / "target"
+ARCHIVE = TARGET / "staticlib" / "libcobleskeg_c.a"
+PROGRAM = TARGET / "bin" / "clash"
+ANSWER = TARGET / "answer"
+CARGO = TARGET / "cargo"
+HEADER = ROOT / "include" / "cobleskeg.h"
+DECLARATIONS = ROOT / "bindings" / "rust" / "src" / "entries.rs"
+MADE_BY = {ARCHIVE: "rt staticlib cobleskeg_c", PROGRAM: "rt check clash"}
+STATUS = {"found": 0, "none": 1, "spent": 2, "refused": 3}  # of the program `answer`, by its first word
+TROUBLE = 4
+
+
+class Failure(Exception):
+    pass
+
+
+def run(command, folder=ROOT, errors=subprocess.STDOUT):
+    """What the command prints; a failure shows all of it."""
+    environment = dict(os.environ, CARGO_TARGET_DIR=str(CARGO), COBLESKEG_ARCHIVE_DIR=str(ARCHIVE.parent))
+    done = subprocess.run([str(word) for word in command], cwd=folder, env=environment, stdout=subprocess.PIPE, stderr=errors, text=True)
+    if done.returncode != 0:
+        raise Failure(f"{done.stdout}`{' '.join(str(word) for word in command)}` ends with {done.returncode}")
+    return done.stdout
+
+
+def prototypes(text, pattern, types):
+    """From the name of each function that the pattern finds to the types of its arguments and its answer, as Rust writes them."""
+    found = {}
+    for function in re.finditer(pattern, text):
+        arguments = [types(argument) for argument in function["arguments"].split(",") if argument.strip()]
+        found[function["name"]] = arguments, types(function["answer"] or "")
+    return found
+
+
+def c_type(argument):
+    """`const uint8_t *file` is `*const u8`; the name is left out."""
+    word, pointer = re.search(r"uint8_t|uint32_t|uint64_t|size_t|void|$", argument)[0], "*" in argument
+    plain = {"uint8_t": "u8", "uint32_t": "u32", "uint64_t": "u64", "size_t": "usize", "void": ""}[word]
+    return (("*const " if "const " in argument else "*mut ") if pointer else "") + plain
+
+
+def rust_type(argument):
+    return argument.split(":")[-1].replace("->", "").strip()
+
+
+def declarations_agree():
+    """Nothing else holds the declarations of the Rust crate to the header."""
+    declared = prototypes(HEADER.read_text(), r"(?P<answer>uint8_t|void) (?P<name>cobleskeg_\w+)\((?P<arguments>[^)]*)\);", c_type)
+    repeated = prototypes(DECLARATIONS.read_text(), r"fn (?P<name>cobleskeg_\w+)\((?P<arguments>[^)]*)\)(?P<answer> -> u8)?;", rust_type)
+    if not declared or declared != repeated:
+        wrong = [name for name in sorted(declared.keys() | repeated.keys()) if declared.get(name) != repeated.get(name)]
+        raise Failure(f"{DECLARATIONS.relative_to(ROOT)} does not declare as the header: {', '.join(wrong)}")
+
+
+def c_programs():
+    """Builds both C programs and runs the one that calls every entry; answers its line."""
+    run(["g++", "-fsyntax-only", "-Wall", "-Wextra", "-Werror", "-x", "c++", HEADER])
+    for name in ("answer", "entries"):
+        source = ROOT / "bindings" / "c" / f"{name}.c"
+        run(["cc", "-std=c11", "-Wall", "-Wextra", "-Werror", f"-I{HEADER.parent}", source, ARCHIVE, "-o", TARGET / name])
+    return run([TARGET / "entries"]).strip()
+
+
+def printed(program, *arguments, given=b""):
+    done = subprocess.run([str(program), *map(str, arguments)], input=given, stdout=subprocess.PIPE, stderr=subprocess.DEVNULL)
+    return done.stdout, done.returncode
+
+
+def expect(what, got, wanted):
+    if got != wanted:
+        raise Failure(f"{what}: {got!r}, not {wanted!r}")
+
+
+def examples():
+    """Every example's stored answer is what `answer` prints of its file; tests/examples.py has looked at the stored ones. Answers how many there are."""
+    problems = sorted((ROOT / "examples").glob("*.problem"))
+    for problem in problems:
+        lines = problem.with_suffix(".answer").read_bytes()
+        status = STATUS[lines.split()[0].decode()]
+        expect(f"answer {problem.name}", printed(ANSWER, problem), (lines, status))
+        expect(f"answer - < {problem.name}", printed(ANSWER, "-", 65536, given=problem.read_bytes()), (lines, status))
+    return len(problems)
+
+
+def calls_of_answer():
+    """What `answer` makes of budgets and of what is no problem, by hand; P14 has its solution at the second node."""
+    p14 = ROOT / "examples" / "p14.problem"
+    for arguments, given, wanted in [
+        ((p14, 1), b"", (b"spent 1\n", 2)),
+        ((p14, 0), b"", (b"spent 0\n", 2)),
+        ((), b"", (b"refused 1\n", 3)),
+        ((), b"\0" * 25024, (b"refused 2\n", 3)),
+        ((), b"\0" * 25025, (b"refused 4\n", 3)),
+        ((), b"\0" * 30000 + p14.read_bytes(), (b"refused 4\n", 3)),
+        ((ROOT / "examples" / "no such file",), b"", (b"", TROUBLE)),
+        ((ROOT / "examples",), b"", (b"", TROUBLE)),
+        ((p14, "-1"), b"", (b"", TROUBLE)),
+        ((p14, "1x"), b"", (b"", TROUBLE)),
+        ((p14, 2**32), b"", (b"", TROUBLE)),
+        ((p14, 1, 1), b"", (b"", TROUBLE)),
+    ]:
+        expect(f"answer {arguments}", printed(ANSWER, *arguments, given=given), wanted)
+
+
+def rust_tests():
+    """Tests of the three crates; answers how many passed."""
+    passed = 0
+    for folder in ("second", "bindings/rust", "compare"):
+        run(["cargo", "build", "--release", "--offline"], ROOT / folder)
+        results = re.findall(r"test result: ok\. (\d+) passed", run(["cargo", "test", "--release", "--offline"], ROOT / folder))
+        if sum(map(int, results)) == 0:
+            raise Failure(f"{folder}: no test ran")
+        passed += sum(map(int, results))
+    return passed
+
+
+def main():
+    parser = argparse.ArgumentParser()
+    parser.add_argument("--cases", type=int, default=20000)
+    parser.add_argument("--seed", type=int, default=1)
+    given = parser.parse_args()
+    missing = [f"target/{path.relative_to(TARGET)} is not there: run `{command}` first" for path, command in MADE_BY.items() if not path.is_file()]
+    try:
+        if missing:
+            raise Failure("\n".join(missing))
+        declarations_agree()
+        checks = c_programs()
+        tests = rust_tests()
+        count = examples()
+        calls_of_answer()
+        compare = [CARGO / "release" / "compare", "--cases", given.cases, "--seed", given.seed, "--program", PROGRAM]
+        print(run(compare, errors=None).strip(), flush=True)  # how far it is shows at once
+    except (Failure, OSError) as failure:
+        print(f"interface: {failure}")
+        return 1
+    print(f"interface: {checks}; {tests} tests of Rust crates; examples: {count}; {given.cases} cases of seed {given.seed} agree with the second solver")
+    return 0
+
+
+if __name__ == "__main__":
+    sys.exit(main())
