@@ -1,16 +1,23 @@
--- Loops that gather a set: the numbers from 0 on are taken one after the other, and each adds nothing or a set of its own. Assumes nothing.
+-- Loops that gather a set: the numbers from 0 on, or the set bits of a word, are taken one after the other, and each adds nothing or a set of its own.
+-- Assumes nothing.
 use mathlib.Core.Path.{_≡_, refl, sym, ap, subst, _∙_}
-use mathlib.Core.Logic.{⊎-elim}
-use mathlib.Core.Bool.{true, false, false≢true}
-use Prim.Native.Nat.{ℕ, _+_, _^_, _<_}
+use mathlib.Core.Logic.{_⊎_, inl, inr, ⊎-elim}
+use mathlib.Core.Bool.{Bool, true, false, not, false≢true}
+use Prim.Native.Nat.{ℕ, _+_, _-_, _^_, _≤_, _<_}
 use native.Mathlib.Nat.{le-of-suc-le-suc, eq-or-lt-of-le}
 use native.Mathlib.Numerals.{add-one}
 use native.Mathlib.Omega.{arith}
-use lib.Bits.{bitOr}
+use lib.Bits.{bitAnd, bitOr}
+use lib.Dec.{eqb}
+use lib.Pow.{pow-pos}
+use borrow.Author.Tests.{ltb-true, lt-ltb, eqb-true}
 use Rattle.model.specs.Words.{bit}
 use Rattle.model.specs.Constraints.{Automaton, move}
-use Rattle.laws.proofs.WordLaws.{zero-bit, pow-self, pow-only, or-bit-left, or-bit-right, of-or-bit}
-use Rattle.automata.specs.Sets.{Gathered, Targets, Sources, Successors, Predecessors}
+use Rattle.laws.proofs.ListLaws.{and-true, true-and}
+use Rattle.laws.proofs.WordLaws.{zero-bit, pow-self, pow-only, or-bit-left, or-bit-right, of-or-bit, bit-high, bit-le, bit-sub, sub-within}
+use Rattle.laws.proofs.ShiftLaws.{bit-and, bit-mask}
+use Rattle.words.specs.Ends.{Lowest}
+use Rattle.automata.specs.Sets.{Gathered, Found, LowBits, Moves, Enters, Successors, Predecessors}
 
 -- a word that is 0 has no bit
 pub no-bit : (w i : ℕ) → w ≡ 0 → bit w i ≡ true → ⊥
@@ -57,36 +64,149 @@ module _ (E : ℕ → ℕ → Type 0) where
         (λ t e. subst (E n) (sym (pow-only m t e)) here)
         (λ t x. subst (λ (j : ℕ). bit (2 ^ m) j ≡ true) (single t x) (pow-self m))
 
--- ---- the loops over states, and over symbols
+-- ---- loops over the set bits of a word, the lowest first
 
-module _ (A : Automaton) (set a p r s : ℕ) where
-  pub targets-skip : Targets A p set a r → bit set p ≡ false → s ≡ r → Targets A (p + 1) set a s
-  targets-skip g e q = rw q (gathered-skip _ p r g (λ t x. false≢true (sym e ∙ x .0)))
+-- the bits of w below n, by the mask of n bits
+pub low-mask : (n w o : ℕ) → o ≡ 2 ^ n → LowBits n w (bitAnd w (o - 1))
+low-mask n w o e = rw e (record {
+  sound = λ i h.
+      let t = and-true (bit w i) (bit (2 ^ n - 1) i) (sym (bit-and w (2 ^ n - 1) i) ∙ h) in
+      (ltb-true i n (sym (bit-mask n i) ∙ t .1), t .0);
+  complete = λ i l h. bit-and w (2 ^ n - 1) i ∙ true-and h (bit-mask n i ∙ lt-ltb i n l);
+})
 
-  pub targets-add : (m o : ℕ) → Targets A p set a r → bit set p ≡ true → m ≡ move A p a → o ≡ 2 ^ m → s ≡ bitOr o r → Targets A (p + 1) set a s
-  targets-add m o g e n u q = rw (q, u) (gathered-one _ p r g m (e, sym n) (λ t x. n ∙ x .1))
+-- a word of 64 bits has none at 64 or above
+pub low-all : (n w : ℕ) → n ≤ 64 → 64 ≤ n → w < 2 ^ 64 → LowBits n w w
+low-all n w l g f = record { sound = λ i h. let t = bit-high w 64 i f h in (omega arith, h); complete = λ i h b. b }
 
-  pub sources-skip : (m : ℕ) → Sources A p set a r → m ≡ move A p a → bit set m ≡ false → s ≡ r → Sources A (p + 1) set a s
-  sources-skip m g n e q = rw q (gathered-skip _ p r g (λ t x. false≢true (sym e ∙ ap (bit set) n ∙ x .1)))
+-- the lowest bit can be taken off, and then less is left
+pub lowest-off : (w a o : ℕ) → Lowest w a → o ≡ 2 ^ a → (o ≤ w) × (w - o < w)
+lowest-off w a o low e =
+    let p = pow-pos a in
+    let l = bit-le w a (low .here) in
+    (omega arith, omega arith)
 
-  pub sources-add : (m o : ℕ) → Sources A p set a r → m ≡ move A p a → bit set m ≡ true → o ≡ 2 ^ p → s ≡ bitOr o r → Sources A (p + 1) set a s
-  sources-add m o g n e u q = rw (q, u) (gathered-one _ p r g p (refl, ap (bit set) (sym n) ∙ e) (λ t x. x .0))
+-- r has what E gives for the numbers below n, but for those that are still to come: the bits of rest, which are bits of w
+pub record Walked (n w : ℕ) (E : ℕ → ℕ → Type 0) (rest r : ℕ) : Type 0 where
+  pub known : (i : ℕ) → bit rest i ≡ true → (i < n) × (bit w i ≡ true)
+  pub sound : (t : ℕ) → bit r t ≡ true → (i : ℕ) × (i < n) × E i t
+  pub complete : (t i : ℕ) → i < n → E i t → (bit r t ≡ true) ⊎ (bit rest i ≡ true)
 
-module _ (A : Automaton) (q set symbols a r s : ℕ) where
-  pub successors-skip : Successors A q a set symbols r → bit symbols a ≡ false → s ≡ r → Successors A q (a + 1) set symbols s
-  successors-skip g e u = rw u (gathered-skip _ a r g (λ t x. false≢true (sym e ∙ x .0)))
+-- E gives something for bits of w alone
+pub walked-start : (n w : ℕ) (E : ℕ → ℕ → Type 0) (rest : ℕ) → ((i t : ℕ) → E i t → bit w i ≡ true) → LowBits n w rest → Walked n w E rest 0
+walked-start n w E rest here low = record {
+  known = low .sound;
+  sound = λ t e. absurd (false≢true (sym (zero-bit t) ∙ e));
+  complete = λ t i h x. inr (low .complete i h (here i t x));
+}
 
-  pub successors-add : (o : ℕ) → Successors A q a set symbols r → bit symbols a ≡ true → Targets A q set a o → s ≡ bitOr o r → Successors A q (a + 1) set symbols s
-  successors-add o g e x u = rw u (gathered-add _ a r g o (λ t b. let y = x .sound t b in (e, (y .0, y .1, y .2 .0, y .2 .1)))
-      (λ t y. x .complete t (y .1 .0) (y .1 .1) (y .1 .2, y .1 .3)))
+module _ (n w : ℕ) (E : ℕ → ℕ → Type 0) (rest r : ℕ) where
+  -- nothing is still to come
+  pub walked-end : rest ≡ 0 → Walked n w E rest r → Gathered n E r
+  walked-end e g = record { sound = g .sound; complete = λ t i h x. ⊎-elim (λ b. b) (λ b. absurd (no-bit rest i e b)) (g .complete t i h x) }
 
-  pub predecessors-skip : Predecessors A q a set symbols r → bit symbols a ≡ false → s ≡ r → Predecessors A q (a + 1) set symbols s
-  predecessors-skip g e u = rw u (gathered-skip _ a r g (λ t x. false≢true (sym e ∙ x .0)))
+  -- the next bit is one of the n
+  pub walked-next : (a : ℕ) → Walked n w E rest r → Lowest rest a → a < n
+  walked-next a g low = g .known a (low .here) .0
 
-  pub predecessors-add : (o : ℕ) → Predecessors A q a set symbols r → bit symbols a ≡ true → Sources A q set a o → s ≡ bitOr o r → Predecessors A q (a + 1) set symbols s
-  predecessors-add o g e x u = rw u (gathered-add _ a r g o
-      (λ t b.
-      let y = x .sound t b in
-      let z = y .2 .0 in
-      (e, subst (λ (p : ℕ). p < q) z (y .1), ap (λ (p : ℕ). bit set (move A p a)) (sym z) ∙ y .2 .1))
-      (λ t y. x .complete t t (y .1) (refl, y .2)))
+  module _ (a o : ℕ) (g : Walked n w E rest r) (low : Lowest rest a) (e : o ≡ 2 ^ a) where
+    -- what is left was there
+    left : (i : ℕ) → bit (rest - o) i ≡ true → bit rest i ≡ true
+    left i h = sub-within rest a (low .here) i (ap (λ (v : ℕ). bit (rest - v) i) (sym e) ∙ h)
+
+    -- v has what r has and what bit a gives, and no more
+    walked-step : (v : ℕ) → ((t : ℕ) → bit v t ≡ true → (bit r t ≡ true) ⊎ E a t) → ((t : ℕ) → bit r t ≡ true → bit v t ≡ true) → ((t : ℕ) → E a t → bit v t ≡ true)
+        → Walked n w E (rest - o) v
+    walked-step v only keeps all = record {
+      known = λ i h. g .known i (left i h);
+      sound = λ t h. ⊎-elim (g .sound t) (λ x. (a, walked-next a g low, x)) (only t h);
+      complete = λ t i h x. go t i x (eqb a i) refl (g .complete t i h x);
+    }
+      where
+        go : (t i : ℕ) → E i t → (c : Bool) → eqb a i ≡ c → (bit r t ≡ true) ⊎ (bit rest i ≡ true) → (bit v t ≡ true) ⊎ (bit (rest - o) i ≡ true)
+        go t i x true q y = inl (all t (subst (λ (j : ℕ). E j t) (sym (eqb-true a i q)) x))
+        go t i x false q (inl y) = inl (keeps t y)
+        go t i x false q (inr y) = inr (rw e (bit-sub rest a i (low .here) ∙ true-and y (ap not q)))
+
+    -- bit a gives nothing
+    pub walked-skip : ((t : ℕ) → E a t → ⊥) → Walked n w E (rest - o) r
+    walked-skip never = walked-step r (λ t h. inl h) (λ t h. h) (λ t x. absurd (never t x))
+
+    -- bit a gives the set s
+    pub walked-add : (s : ℕ) → ((t : ℕ) → bit s t ≡ true → E a t) → ((t : ℕ) → E a t → bit s t ≡ true) → Walked n w E (rest - o) (bitOr s r)
+    walked-add s only all = walked-step (bitOr s r) (λ t h. ⊎-elim (λ x. inr (only t x)) (λ x. inl x) (of-or-bit s r t h)) (or-bit-right s r) (λ t x. or-bit-left s r t (all t x))
+
+    -- bit a gives the one number m
+    pub walked-one : (m : ℕ) → E a m → ((t : ℕ) → E a t → m ≡ t) → Walked n w E (rest - o) (bitOr (2 ^ m) r)
+    walked-one m here single = walked-add (2 ^ m)
+        (λ t h. subst (E a) (sym (pow-only m t h)) here)
+        (λ t x. subst (λ (j : ℕ). bit (2 ^ m) j ≡ true) (single t x) (pow-self m))
+
+-- ---- loops that stop at the first bit that leads into a set: as long as they go on, nothing is gathered
+
+-- bit i of w leads into the set by f
+abbrev pub Hit : ℕ → ℕ → (ℕ → ℕ) → ℕ → Type 0
+Hit w set f i = (bit w i ≡ true) × (bit set (f i) ≡ true)
+
+module _ (n w set : ℕ) (f : ℕ → ℕ) (rest : ℕ) (g : Walked n w (λ i t. Hit w set f i) rest 0) where
+  pub hit-none : rest ≡ 0 → Found n (Hit w set f) false
+  hit-none e = record {
+    sound = λ q. absurd (false≢true q);
+    complete = λ i h x. absurd (no-bit 0 0 refl (walked-end n w (λ i t. Hit w set f i) rest 0 e g .complete 0 i h x));
+  }
+
+  module _ (a m : ℕ) (low : Lowest rest a) (q : m ≡ f a) where
+    pub hit-one : bit set m ≡ true → Found n (Hit w set f) true
+    hit-one h = record { sound = λ t. (a, walked-next n w _ rest 0 a g low, (g .known a (low .here) .1, ap (bit set) (sym q) ∙ h)); complete = λ i l x. refl }
+
+    pub hit-skip : (o : ℕ) → o ≡ 2 ^ a → bit set m ≡ false → Walked n w (λ i t. Hit w set f i) (rest - o) 0
+    hit-skip o e h = walked-skip n w _ rest 0 a o g low e (λ t x. false≢true (sym h ∙ ap (bit set) q ∙ x .1))
+
+-- ---- the loops over the states of a set and over the symbols of a word
+
+-- what symbol a of the word gives: the state that p moves to
+abbrev pub BySymbol : Automaton → ℕ → ℕ → ℕ → ℕ → Type 0
+BySymbol A p symbols a t = (bit symbols a ≡ true) × (move A p a ≡ t)
+
+-- what state p of the set gives: the states that it moves to by a symbol of the word
+abbrev pub ByState : Automaton → ℕ → ℕ → ℕ → ℕ → ℕ → Type 0
+ByState A k set symbols p t = (bit set p ≡ true) × ((a : ℕ) × (a < k) × (bit symbols a ≡ true) × (move A p a ≡ t))
+
+-- what state p gives: itself, if it moves into the set by a symbol of the word
+abbrev pub Entering : Automaton → ℕ → ℕ → ℕ → ℕ → ℕ → Type 0
+Entering A k set symbols p t = (p ≡ t) × ((a : ℕ) × (a < k) × (bit symbols a ≡ true) × (bit set (move A p a) ≡ true))
+
+module _ (A : Automaton) (k symbols : ℕ) where
+  pub moves-add : (p rest r a o m u : ℕ) → Walked k symbols (BySymbol A p symbols) rest r → Lowest rest a → o ≡ 2 ^ a → m ≡ move A p a → u ≡ 2 ^ m
+      → Walked k symbols (BySymbol A p symbols) (rest - o) (bitOr u r)
+  moves-add p rest r a o m u g low e n f = rw f (walked-one k symbols _ rest r a o g low e m (g .known a (low .here) .1, sym n) (λ t x. n ∙ x .1))
+
+  module _ (set p r s : ℕ) (b : Bool) (g : Gathered p (Entering A k set symbols) r) (x : Enters A k p set symbols b) where
+    pub predecessors-skip : b ≡ false → s ≡ r → Gathered (p + 1) (Entering A k set symbols) s
+    predecessors-skip e f = rw f (gathered-skip _ p r g (λ t y. let z = y .1 in false≢true (sym e ∙ x .complete (z .0) (z .1) (z .2, z .3))))
+
+    pub predecessors-add : (u : ℕ) → b ≡ true → u ≡ 2 ^ p → s ≡ bitOr u r → Gathered (p + 1) (Entering A k set symbols) s
+    predecessors-add u e v f = let y = x .sound e in rw (f, v) (gathered-one _ p r g p (refl, (y .0, y .1, y .2 .0, y .2 .1)) (λ t z. z .0))
+
+  module _ (q set : ℕ) where
+    pub successors-add : (rest r p o u : ℕ) → Walked q set (ByState A k set symbols) rest r → Lowest rest p → o ≡ 2 ^ p → Moves A k p symbols u
+        → Walked q set (ByState A k set symbols) (rest - o) (bitOr u r)
+    successors-add rest r p o u g low e x = walked-add q set _ rest r p o g low e u
+        (λ t b. let y = x .sound t b in (g .known p (low .here) .1, (y .0, y .1, y .2 .0, y .2 .1)))
+        (λ t y. x .complete t (y .1 .0) (y .1 .1) (y .1 .2, y .1 .3))
+
+    pub successors-end : (r : ℕ) → Gathered q (ByState A k set symbols) r → Successors A q k set symbols r
+    successors-end r g = record {
+      sound = λ t b. let y = g .sound t b in let z = y .2 .1 in (z .0, z .1, (z .2, (y .0, y .1, y .2 .0, z .3)));
+      complete = λ t a h x. let y = x .1 in g .complete t (y .0) (y .1) (y .2, (a, h, x .0, y .3));
+    }
+
+    pub predecessors-end : (r : ℕ) → Gathered q (Entering A k set symbols) r → Predecessors A q k set symbols r
+    predecessors-end r g = record {
+      sound = λ t b.
+          let y = g .sound t b in
+          let e = y .2 .0 in
+          let z = y .2 .1 in
+          (z .0, z .1, (z .2, subst (λ (p : ℕ). p < q) e (y .1), ap (λ (p : ℕ). bit set (move A p (z .0))) (sym e) ∙ z .3));
+      complete = λ t a h x. g .complete t t (x .1) (refl, (a, h, x .0, x .2));
+    }

@@ -1,6 +1,6 @@
 -- Sets of states, by the moves that lead to them or from them: a set is a number, bit p for state p. Assumes nothing.
 use mathlib.Core.Path.{_≡_}
-use mathlib.Core.Bool.{true}
+use mathlib.Core.Bool.{Bool, true}
 use Prim.Native.Nat.{ℕ, _<_}
 use Rattle.model.specs.Words.{bit}
 use Rattle.model.specs.Constraints.{Automaton, move}
@@ -10,13 +10,27 @@ pub record Gathered (n : ℕ) (E : ℕ → ℕ → Type 0) (r : ℕ) : Type 0 wh
   pub sound : (t : ℕ) → bit r t ≡ true → (i : ℕ) × (i < n) × E i t
   pub complete : (t i : ℕ) → i < n → E i t → bit r t ≡ true
 
--- in an automaton of q states: the states t to which a state p of the set moves by symbol a
-abbrev pub Targets : Automaton → ℕ → ℕ → ℕ → ℕ → Type 0
-Targets A q set a r = Gathered q (λ p t. (bit set p ≡ true) × (move A p a ≡ t)) r
+-- r says whether E gives some i below n
+pub record Found (n : ℕ) (E : ℕ → Type 0) (r : Bool) : Type 0 where
+  pub sound : r ≡ true → (i : ℕ) × (i < n) × E i
+  pub complete : (i : ℕ) → i < n → E i → r ≡ true
 
--- the states p that move into the set by symbol a
-abbrev pub Sources : Automaton → ℕ → ℕ → ℕ → ℕ → Type 0
-Sources A q set a r = Gathered q (λ p t. (p ≡ t) × (bit set (move A p a) ≡ true)) r
+-- r has just the bits of w below n
+pub record LowBits (n w r : ℕ) : Type 0 where
+  pub sound : (i : ℕ) → bit r i ≡ true → (i < n) × (bit w i ≡ true)
+  pub complete : (i : ℕ) → i < n → bit w i ≡ true → bit r i ≡ true
+
+-- the states t to which state p moves by a symbol a of the word, of k symbols
+abbrev pub Moves : Automaton → ℕ → ℕ → ℕ → ℕ → Type 0
+Moves A k p symbols r = Gathered k (λ a t. (bit symbols a ≡ true) × (move A p a ≡ t)) r
+
+-- whether state p moves into the set by a symbol a of the word, of k symbols
+abbrev pub Enters : Automaton → ℕ → ℕ → ℕ → ℕ → Bool → Type 0
+Enters A k p set symbols r = Found k (λ a. (bit symbols a ≡ true) × (bit set (move A p a) ≡ true)) r
+
+-- in an automaton of q states: whether a state p of the first set moves into the second by symbol a
+abbrev pub Leads : Automaton → ℕ → ℕ → ℕ → ℕ → Bool → Type 0
+Leads A q from into a r = Found q (λ p. (bit from p ≡ true) × (bit into (move A p a) ≡ true)) r
 
 -- the states t to which a state p of the set moves by a symbol a of the word, of k symbols
 abbrev pub Successors : Automaton → ℕ → ℕ → ℕ → ℕ → ℕ → Type 0

@@ -1,6 +1,9 @@
 // An automaton in its bytes: the state count q, four bytes of accepting states, then for each of the q states a row of k bytes, the next state for each
 // symbol. A set of states is a `u32`, bit p for state p; states and symbols are `usize`. `next` alone follows a move; `walk` goes from automaton to automaton.
 //
+// `successors`, `predecessors` and `leads` go through the set bits of a word alone, the lowest first: most places allow few symbols, and most sets have few
+// states.
+//
 // Assumes nothing. `requires` asks what refusals 3 and 5 leave: at most 64 symbols, and an automaton's whole bytes.
 mod walk;
 
@@ -12,7 +15,7 @@ ghost use lib.ListN.{length};
 ghost use Rattle.model.specs.Constraints.{move};
 ghost use Rattle.model.specs.Layout.{little, part};
 ghost use Rattle.automata.specs.Machine.{stateCount, machine, Whole};
-ghost use Rattle.automata.specs.Sets.{Targets, Sources, Successors, Predecessors};
+ghost use Rattle.automata.specs.Sets.{LowBits, Moves, Enters, Leads, Successors, Predecessors};
 
 // How many states there are.
 pub fn states(d: &[u8]) -> usize
@@ -46,38 +49,62 @@ fn only(p: usize) -> u32
     1 << p
 }
 
-// The states that some state of the set moves to by symbol a.
-pub fn targets(d: &[u8], k: usize, set: u32, a: usize) -> u32
-    requires { ⌜ (k ≤ 64) × Whole k (now d) × (a < k) ⌝ }
-    ensures { λ r. ⌜ Targets (machine k (now (d .entry))) (stateCount (now (d .entry))) set a r ⌝ }
+// The bits of w below n: a word may have more bits than there are symbols, and a set more than there are states.
+pub fn below(w: u64, n: usize) -> u64
+    requires { ⌜ n ≤ 64 ⌝ }
+    ensures { λ r. ⌜ LowBits n w r ⌝ }
 {
-    let q = states(d);
+    if n < 64 {
+        return w & (words::single(n) - 1);
+    }
+    w
+}
+
+// The states that state p moves to by some symbol of the word.
+fn moves(d: &[u8], k: usize, p: usize, symbols: u64) -> u32
+    requires { ⌜ (k ≤ 64) × Whole k (now d) × (p < stateCount (now d)) ⌝ }
+    ensures { λ r. ⌜ Moves (machine k (now (d .entry))) k p symbols r ⌝ }
+{
+    let mut rest = below(symbols, k);
     let mut r: u32 = 0;
-    let mut p: usize = 0;
-    while p < q {
-        if words::has(set as u64, p) {
-            r = only(next(d, k, p, a)) | r;
-        }
-        p += 1;
+    while rest != 0 {
+        let a = words::lowest(rest);
+        r = only(next(d, k, p, a)) | r;
+        rest -= words::single(a);
     }
     r
 }
 
-// The states that move into the set by symbol a.
-pub fn sources(d: &[u8], k: usize, set: u32, a: usize) -> u32
-    requires { ⌜ (k ≤ 64) × Whole k (now d) × (a < k) ⌝ }
-    ensures { λ r. ⌜ Sources (machine k (now (d .entry))) (stateCount (now (d .entry))) set a r ⌝ }
+// Whether state p moves into the set by some symbol of the word. The first such symbol will do: where many are allowed, it is soon found.
+fn enters(d: &[u8], k: usize, p: usize, set: u32, symbols: u64) -> bool
+    requires { ⌜ (k ≤ 64) × Whole k (now d) × (p < stateCount (now d)) ⌝ }
+    ensures { λ r. ⌜ Enters (machine k (now (d .entry))) k p set symbols r ⌝ }
 {
-    let q = states(d);
-    let mut r: u32 = 0;
-    let mut p: usize = 0;
-    while p < q {
+    let mut rest = below(symbols, k);
+    while rest != 0 {
+        let a = words::lowest(rest);
         if words::has(set as u64, next(d, k, p, a)) {
-            r = only(p) | r;
+            return true;
         }
-        p += 1;
+        rest -= words::single(a);
     }
-    r
+    false
+}
+
+// Whether some state of the first set moves into the second by symbol a. The first such state will do.
+pub fn leads(d: &[u8], k: usize, from: u32, into: u32, a: usize) -> bool
+    requires { ⌜ (k ≤ 64) × Whole k (now d) × (a < k) ⌝ }
+    ensures { λ r. ⌜ Leads (machine k (now (d .entry))) (stateCount (now (d .entry))) from into a r ⌝ }
+{
+    let mut rest = below(from as u64, states(d));
+    while rest != 0 {
+        let p = words::lowest(rest);
+        if words::has(into as u64, next(d, k, p, a)) {
+            return true;
+        }
+        rest -= words::single(p);
+    }
+    false
 }
 
 // The states that some state of the set moves to by some symbol of the word.
@@ -85,35 +112,29 @@ pub fn successors(d: &[u8], k: usize, set: u32, symbols: u64) -> u32
     requires { ⌜ (k ≤ 64) × Whole k (now d) ⌝ }
     ensures { λ r. ⌜ Successors (machine k (now (d .entry))) (stateCount (now (d .entry))) k set symbols r ⌝ }
 {
-    if symbols == 0 {
-        return 0;
-    }
+    let mut rest = below(set as u64, states(d));
     let mut r: u32 = 0;
-    let mut a: usize = 0;
-    while a < k {
-        if words::has(symbols, a) {
-            r = targets(d, k, set, a) | r;
-        }
-        a += 1;
+    while rest != 0 {
+        let p = words::lowest(rest);
+        r = moves(d, k, p, symbols) | r;
+        rest -= words::single(p);
     }
     r
 }
 
-// The states that move into the set by some symbol of the word.
+// The states that move into the set by some symbol of the word. Any state may, so that all are asked.
 pub fn predecessors(d: &[u8], k: usize, set: u32, symbols: u64) -> u32
     requires { ⌜ (k ≤ 64) × Whole k (now d) ⌝ }
     ensures { λ r. ⌜ Predecessors (machine k (now (d .entry))) (stateCount (now (d .entry))) k set symbols r ⌝ }
 {
-    if symbols == 0 {
-        return 0;
-    }
-    let mut r: u32 = 0;
-    let mut a: usize = 0;
-    while a < k {
-        if words::has(symbols, a) {
-            r = sources(d, k, set, a) | r;
+    let q = states(d);
+    let mut found: u32 = 0;
+    let mut p: usize = 0;
+    while p < q {
+        if enters(d, k, p, set, symbols) {
+            found = only(p) | found;
         }
-        a += 1;
+        p += 1;
     }
-    r
+    found
 }

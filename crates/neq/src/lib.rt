@@ -26,7 +26,7 @@ fn single(v: [u64; 64]) -> bool
 {
     let mut i: usize = 0;
     while i < 64 {
-        if words::count(v[i]) >= 2 {
+        if words::several(v[i]) {
             return false;
         }
         i += 1;

@@ -1,9 +1,9 @@
 -- Regular by support: the lengths and the symbols that the loops keep are those that accepted strings of the row use. Assumes nothing.
 use mathlib.Core.Path.{_≡_, refl, sym, ap, subst, _∙_}
 use mathlib.Core.Logic.{_⊎_, inl, inr}
-use mathlib.Core.Bool.{true, false, cond, false≢true}
+use mathlib.Core.Bool.{Bool, true, false, false≢true}
 use mathlib.Core.List.{List, [], _∷_, _++_}
-use Prim.Native.Nat.{ℕ, zero, suc, _+_, _^_, _≤_, _<_}
+use Prim.Native.Nat.{ℕ, zero, suc, _+_, _-_, _^_, _≤_, _<_}
 use native.Mathlib.Nat.{le-of-suc-le-suc, eq-or-lt-of-le}
 use native.Mathlib.Numerals.{add-one}
 use native.Mathlib.Omega.{arith}
@@ -14,17 +14,17 @@ use Rattle.model.specs.Words.{bit, word}
 use Rattle.model.specs.Constraints.{Automaton, move, reached, accepts, regular, variables, meets, Problem, noAutomaton, width}
 use Rattle.model.specs.Solutions.{textBit}
 use Rattle.model.specs.Support.{narrowed}
-use Rattle.laws.proofs.WordLaws.{zero-bit}
 use Rattle.laws.proofs.RowLaws.{InRow, used-length, used-symbol, symbol-inside}
 use Rattle.laws.proofs.Supports.{Supports}
 use Rattle.rows.specs.Rows.{alone, stored}
 use Rattle.rows.proofs.Windows.{uses-symbol, uses-length}
-use Rattle.automata.specs.Sets.{Targets}
-use Rattle.automata.proofs.SetLaws.{gathered-skip, gathered-one}
+use Rattle.words.specs.Ends.{Lowest}
+use Rattle.automata.specs.Sets.{Leads}
+use Rattle.automata.proofs.SetLaws.{Walked, walked-skip, walked-one}
 use Rattle.regular.specs.Paths.{Reach, Ends}
-use Rattle.regular.specs.Sets.{Forward, Backward, Lengths, Moved, Symbols}
+use Rattle.regular.specs.Sets.{Forward, Backward, Lengths, Symbols}
 use Rattle.regular.proofs.PathLaws.{reached-append, allowed-first, first-allowed, allowed-cons, allowed-append, allowed-take, allowed-drop}
-use Rattle.regular.proofs.BitLaws.{where-bit, of-where-bit, meeting-bit, no-meeting-bit}
+use Rattle.regular.proofs.BitLaws.{meeting-bit, no-meeting-bit}
 use Rattle.regular.proofs.StateLaws.{Suited, reach-known}
 use Rattle.rows.proofs.OneString.{Passing, one-narrowed}
 use Rattle.model.specs.Domains.{row}
@@ -32,44 +32,36 @@ use Rattle.rows.proofs.PlacedKinds.{placed-one}
 
 -- ---- the loop over lengths
 
-module _ (allowed accepting : ℕ) (sets : List ℕ) (l n r s : ℕ) (g : Lengths l allowed accepting sets r) (e : n ≡ cond (bit allowed l) accepting 0) where
-  pub lengths-skip : bitAnd n (word sets l) ≡ 0 → s ≡ r → Lengths (l + 1) allowed accepting sets s
-  lengths-skip z q = rw q (gathered-skip _ l r g (λ t x.
-      no-meeting-bit n (word sets l) (x .2 .0) z (ap (λ (w : ℕ). bit w (x .2 .0)) e ∙ where-bit (bit allowed l) accepting (x .2 .0) (x .1) (x .2 .1)) (x .2 .2)))
+-- what length l of the word gives: itself, if its set has an accepting state
+abbrev pub Ending : ℕ → ℕ → List ℕ → ℕ → ℕ → Type 0
+Ending allowed accepting sets l t = (l ≡ t) × (bit allowed l ≡ true) × ((p : ℕ) × (bit accepting p ≡ true) × (bit (word sets l) p ≡ true))
 
-  pub lengths-add : (o : ℕ) → n < 2 ^ 32 → (bitAnd n (word sets l) ≡ 0 → ⊥) → o ≡ 2 ^ l → s ≡ bitOr o r → Lengths (l + 1) allowed accepting sets s
-  lengths-add o h ne u q =
-      let m = meeting-bit n (word sets l) h ne in
-      let t = of-where-bit (bit allowed l) accepting (m .0) (ap (λ (w : ℕ). bit w (m .0)) (sym e) ∙ m .1) in
-      rw (q, u) (gathered-one _ l r g l (refl, t .0, (m .0, t .1, m .2)) (λ t x. x .0))
+module _ (allowed accepting : ℕ) (sets : List ℕ) (rest r l o s : ℕ) (g : Walked 64 allowed (Ending allowed accepting sets) rest r) (low : Lowest rest l) (e : o ≡ 2 ^ l) where
+  pub lengths-skip : bitAnd accepting (word sets l) ≡ 0 → s ≡ r → Walked 64 allowed (Ending allowed accepting sets) (rest - o) s
+  lengths-skip z q = rw q (walked-skip 64 allowed _ rest r l o g low e (λ t x. no-meeting-bit accepting (word sets l) (x .2 .0) z (x .2 .1) (x .2 .2)))
+
+  pub lengths-add : accepting < 2 ^ 32 → (bitAnd accepting (word sets l) ≡ 0 → ⊥) → s ≡ bitOr o r → Walked 64 allowed (Ending allowed accepting sets) (rest - o) s
+  lengths-add h ne u =
+      let m = meeting-bit accepting (word sets l) h ne in
+      let v : s ≡ bitOr (2 ^ l) r = u ∙ ap (λ (i : ℕ). bitOr i r) e in
+      rw v (walked-one 64 allowed _ rest r l o g low e l (refl, g .known l (low .here) .1, (m .0, m .1, m .2)) (λ t x. x .0))
 
 -- ---- the loop over symbols
 
-module _ (A : Automaton) (q allowed : ℕ) where
-  pub moved-all : (set a r : ℕ) → bit allowed a ≡ true → Targets A q set a r → Moved A q allowed set a r
-  moved-all set a r e g = record {
-    sound = λ t b. let x = g .sound t b in (x .0, x .1, (e, x .2 .0, x .2 .1));
-    complete = λ t p h x. g .complete t p h (x .1, x .2);
-  }
+-- what symbol a of the word gives: itself, if a state of the first set moves into the second by it
+abbrev pub Leading : Automaton → ℕ → ℕ → ℕ → ℕ → ℕ → ℕ → Type 0
+Leading A q allowed before after a t = (a ≡ t) × (bit allowed a ≡ true) × ((p : ℕ) × (p < q) × (bit before p ≡ true) × (bit after (move A p a) ≡ true))
 
-  pub moved-none : (set a : ℕ) → bit allowed a ≡ false → Moved A q allowed set a 0
-  moved-none set a e = record {
-    sound = λ t b. absurd (false≢true (sym (zero-bit t) ∙ b));
-    complete = λ t p h x. absurd (false≢true (sym e ∙ x .0));
-  }
+module _ (A : Automaton) (q k allowed before after rest r a o s : ℕ) (b : Bool) where
+  module _ (g : Walked k allowed (Leading A q allowed before after) rest r) (low : Lowest rest a) (e : o ≡ 2 ^ a) (x : Leads A q before after a b) where
+    pub symbols-skip : b ≡ false → s ≡ r → Walked k allowed (Leading A q allowed before after) (rest - o) s
+    symbols-skip h u = rw u (walked-skip k allowed _ rest r a o g low e (λ t y. let z = y .2 in false≢true (sym h ∙ x .complete (z .0) (z .1) (z .2, z .3))))
 
-  module _ (before after a n r s : ℕ) (g : Symbols A q a allowed before after r) (m : Moved A q allowed before a n) where
-    pub symbols-skip : bitAnd n after ≡ 0 → s ≡ r → Symbols A q (a + 1) allowed before after s
-    symbols-skip z u = rw u (gathered-skip _ a r g (λ t x.
-        let y = x .2 in
-        no-meeting-bit n after (move A (y .0) a) z (m .complete (move A (y .0) a) (y .0) (y .1) (x .1, y .2, refl)) (y .3)))
-
-    pub symbols-add : (o : ℕ) → n < 2 ^ 32 → (bitAnd n after ≡ 0 → ⊥) → o ≡ 2 ^ a → s ≡ bitOr o r → Symbols A q (a + 1) allowed before after s
-    symbols-add o h ne u v =
-        let y = meeting-bit n after h ne in
-        let t = m .sound (y .0) (y .1) in
-        let i : bit after (move A (t .0) a) ≡ true = ap (bit after) (t .2 .2) ∙ y .2 in
-        rw (v, u) (gathered-one _ a r g a (refl, t .2 .0, (t .0, t .1, t .2 .1, i)) (λ t x. x .0))
+    pub symbols-add : b ≡ true → s ≡ bitOr o r → Walked k allowed (Leading A q allowed before after) (rest - o) s
+    symbols-add h u =
+        let y = x .sound h in
+        let v : s ≡ bitOr (2 ^ a) r = u ∙ ap (λ (i : ℕ). bitOr i r) e in
+        rw v (walked-one k allowed _ rest r a o g low e a (refl, g .known a (low .here) .1, (y .0, y .1, y .2 .0, y .2 .1)) (λ t z. z .0))
 
 -- ---- the loop over places
 

@@ -4,7 +4,7 @@ use mathlib.Core.Logic.{_⊎_, inl, inr, ⊎-elim}
 use mathlib.Core.Bool.{Bool, true, false, cond, false≢true}
 use mathlib.Core.List.{List}
 use Prim.Native.Nat.{ℕ, zero, suc, _+_, _-_, _*_, _^_, _≤_, _<_}
-use native.Mathlib.Nat.{eq-or-lt-of-le}
+use native.Mathlib.Nat.{eq-or-lt-of-le, pos-of-ne-zero}
 use native.Mathlib.Numerals.{add-one}
 use native.Mathlib.Omega.{arith}
 use lib.Bits.{bitOr}
@@ -19,7 +19,7 @@ use Rattle.model.specs.Reading.{symbolsBelow}
 use Rattle.laws.proofs.ListLaws.{of-all, in-upto, in-from}
 use Rattle.laws.proofs.DomainLaws.{row-word}
 use Rattle.model.specs.Constraints.{Automaton, move}
-use Rattle.laws.proofs.WordLaws.{zero-bit, pow-self, pow-only, in-bits, noneFrom-bits, or-bit-left, or-bit-right, of-or-bit}
+use Rattle.laws.proofs.WordLaws.{zero-bit, pow-self, pow-only, in-bits, noneFrom-bits, noneFrom-all, or-bit-left, or-bit-right, of-or-bit}
 use Rattle.automata.specs.Machine.{stateCount, machine, Whole}
 use Rattle.automata.specs.Sets.{Successors, Predecessors}
 use Rattle.automata.proofs.MachineLaws.{move-known}
@@ -57,6 +57,10 @@ pub record Suited (A : Automaton) (q k : ℕ) (x : List ℕ) : Type 0 where
 
 pub machine-suited : (k : ℕ) (bs x : List ℕ) → Whole k bs → Alphabet k x → length x ≡ 64 → Words x → Suited (machine k bs) (stateCount bs) k x
 machine-suited k bs x w h n bd = record { start = w .some-state; known = move-known k bs w; low = symbol-below k x n bd h; size = n; words = bd }
+
+-- where a length past 63 - r is allowed, a symbol is left
+pub some-left : (w r : ℕ) → noneFrom (63 - r + 1) w ≡ false → 0 < r
+some-left w r e = pos-of-ne-zero (λ z. false≢true (sym e ∙ ap (λ (n : ℕ). noneFrom (63 - n + 1) w) z ∙ noneFrom-all w))
 
 -- ---- forwards
 
@@ -119,26 +123,37 @@ module _ (A : Automaton) (q k : ℕ) (x : List ℕ) (fit : Suited A q k x) where
 
   -- ---- backwards
 
-  -- past the last place
-  pub backward-last : (r acc here : ℕ) (sets : List ℕ) → r ≡ 0 → acc ≡ A .accepting → here ≡ cond (bit (word x 0) (63 - r)) acc 0 → word sets 63 ≡ here → Backward A q x (63 - r) sets
-  backward-last r acc here sets z u e at = record {
-    sound = λ j p h l b.
-        let y : j ≡ 63 = omega arith in
-        let t = of-where-bit (bit (word x 0) 63) (A .accepting) p (ap (λ (w : ℕ). bit w p) (sym full) ∙ ap (λ (m : ℕ). bit (word sets m) p) (sym y) ∙ b) in
-        subst (λ (m : ℕ). Ends A x m p) (sym y) (ends-here A x 63 p (t .0) (t .1));
+  -- an end that is reached lies within the lengths
+  ends-below : (n j p : ℕ) → noneFrom n (word x 0) ≡ true → Ends A x j p → j < n
+  ends-below n j p none w =
+      let l : ℕ = j + length (w .symbols) in
+      let h = noneFrom-bits n (word x 0) none l (in-bits (word x 0) l (w .long) (fit .words 0 l (w .long))) in
+      omega arith
+
+  -- past the place after which no length is allowed
+  pub backward-last : (r acc here : ℕ) (zeros : List ℕ) → length zeros ≡ 64 → ((j : ℕ) → j < 64 → word zeros j ≡ 0) → r < 64 → noneFrom (63 - r + 1) (word x 0) ≡ true
+      → acc ≡ A .accepting → here ≡ cond (bit (word x 0) (63 - r)) acc 0 → Backward A q x (63 - r) (set zeros (63 - r) here)
+  backward-last r acc here zeros n empty small none u e = record {
+    sound = λ j p h l b. sound-at j p l b (eq-or-lt-of-le h);
     complete = λ j p h l k w.
-        let y : j ≡ 63 = omega arith in
-        ap (λ (m : ℕ). bit (word sets m) p) y ∙ ap (λ (m : ℕ). bit m p) full
+        let y : 63 - r ≡ j = omega (arith, h, ends-below (63 - r + 1) j p none w) in
+        ap (λ (m : ℕ). bit (word (set zeros (63 - r) here) m) p) (sym y) ∙ ap (λ (m : ℕ). bit m p) at
         ∙ ⊎-elim
-        (λ t. where-bit (bit (word x 0) 63) (A .accepting) p (t .0) (t .1))
-        (λ g.
-        let n = fit .size in
-        absurd (false≢true (sym (zero-bit (g .symbol)) ∙ ap (λ (m : ℕ). bit m (g .symbol)) (sym (List·getD-eq-default x 0 (omega arith))) ∙ g .allowed)))
-        (ends-cases A x 63 p (subst (λ (m : ℕ). Ends A x m p) y w));
+        (λ t. where-bit (bit (word x 0) (63 - r)) (A .accepting) p (t .0) (t .1))
+        (λ g. absurd (omega (arith, ends-below (63 - r + 1) (suc (63 - r)) (move A p (g .symbol)) none (g .after))))
+        (ends-cases A x (63 - r) p (subst (λ (m : ℕ). Ends A x m p) (sym y) w));
   }
     where
-      full : word sets 63 ≡ cond (bit (word x 0) 63) (A .accepting) 0
-      full = at ∙ e ∙ rw (z, u)
+      at : getD (set zeros (63 - r) here) (63 - r) 0 ≡ cond (bit (word x 0) (63 - r)) (A .accepting) 0
+      at = getD-set-same zeros (63 - r) here 0 (omega arith) ∙ e ∙ ap (λ (a : ℕ). cond (bit (word x 0) (63 - r)) a 0) u
+
+      sound-at : (j p : ℕ) → j < 64 → bit (word (set zeros (63 - r) here) j) p ≡ true → (63 - r ≡ j) ⊎ (63 - r < j) → Ends A x j p
+      sound-at j p l b (inl y) =
+          let t = of-where-bit (bit (word x 0) (63 - r)) (A .accepting) p
+          (ap (λ (w : ℕ). bit w p) (sym at) ∙ ap (λ (m : ℕ). bit (word (set zeros (63 - r) here) m) p) y ∙ b) in
+          subst (λ (m : ℕ). Ends A x m p) y (ends-here A x (63 - r) p (t .0) (t .1))
+      sound-at j p l b (inr h) =
+          absurd (false≢true (sym (zero-bit p) ∙ ap (λ (w : ℕ). bit w p) (sym (getD-set-other zeros (63 - r) j here 0 (omega arith) ∙ empty j l)) ∙ b))
 
   -- one place further back
   pub backward-step : (i here r : ℕ) (sets : List ℕ) → length sets ≡ 64 → i < 63 → here ≡ cond (bit (word x 0) i) (A .accepting) 0 → Backward A q x (suc i) sets
@@ -174,7 +189,7 @@ module _ (A : Automaton) (q k : ℕ) (x : List ℕ) (fit : Suited A q k x) where
       complete-at j p l h w (inr g) = ap (λ (m : ℕ). bit m p) (other j g) ∙ f .complete j p g l h w
 
   -- as the recursion counts, by the symbols left
-  pub backward-next : (r acc here s : ℕ) (sets : List ℕ) → length sets ≡ 64 → (r ≡ 0 → ⊥) → r < 64 → acc ≡ A .accepting → here ≡ cond (bit (word x 0) (63 - r)) acc 0
+  pub backward-next : (r acc here s : ℕ) (sets : List ℕ) → length sets ≡ 64 → 0 < r → r < 64 → acc ≡ A .accepting → here ≡ cond (bit (word x 0) (63 - r)) acc 0
       → Backward A q x (63 - (r - 1)) sets → Predecessors A q k (word sets (63 - r + 1)) (word x (63 - r + 1)) s → Backward A q x (63 - r) (set sets (63 - r) (bitOr here s))
   backward-next r acc here s sets n some h u e b t =
       let m : 63 - (r - 1) ≡ suc (63 - r) = omega arith in

@@ -26,10 +26,6 @@ pub record Backward (A : Automaton) (q : ℕ) (x : List ℕ) (m : ℕ) (sets : L
 abbrev pub Lengths : ℕ → ℕ → ℕ → List ℕ → ℕ → Type 0
 Lengths n allowed accepting sets r = Gathered n (λ l t. (l ≡ t) × (bit allowed l ≡ true) × ((p : ℕ) × (bit accepting p ≡ true) × (bit (word sets l) p ≡ true))) r
 
--- the states t to which a state p of the set, of q states, moves by symbol a, if that is allowed
-abbrev pub Moved : Automaton → ℕ → ℕ → ℕ → ℕ → ℕ → Type 0
-Moved A q allowed set a r = Gathered q (λ p t. (bit allowed a ≡ true) × (bit set p ≡ true) × (move A p a ≡ t)) r
-
 -- the symbols a, of k, that are allowed, and by which a state p of the first set moves into the second
 abbrev pub Symbols : Automaton → ℕ → ℕ → ℕ → ℕ → ℕ → ℕ → Type 0
 Symbols A q k allowed before after r = Gathered k (λ a t. (a ≡ t) × (bit allowed a ≡ true) × ((p : ℕ) × (p < q) × (bit before p ≡ true) × (bit after (move A p a) ≡ true))) r

@@ -12,7 +12,7 @@ ghost use Rattle.model.specs.Support.{narrowed};
 ghost use Rattle.rows.specs.Rows.{alone};
 ghost use Rattle.automata.specs.Machine.{stateCount, machine, Whole};
 ghost use Rattle.automata.specs.Sets.{Successors, Predecessors};
-ghost use Rattle.regular.specs.Sets.{Alphabet, Forward, Backward, Moved, Lengths, Symbols};
+ghost use Rattle.regular.specs.Sets.{Alphabet, Forward, Backward, Lengths, Symbols};
 
 // What the automaton was asked at a place, and its answer: the states that the set moves to by the word, or those that move into it.
 struct Asked {
@@ -101,7 +101,8 @@ fn forward(d: &[u8], k: usize, x: [u64; 64]) -> [u32; 64]
     sets
 }
 
-// From which states an accepted end is reachable with at most r symbols left, that is, past 63 - r places; and so for each smaller number of symbols.
+// From which states an accepted end is reachable with at most r symbols left, that is, past 63 - r places; and so for each smaller number of symbols. Where no
+// greater length is allowed nothing is left to read, and the sets further on are empty.
 fn backward(d: &[u8], k: usize, x: [u64; 64], r: usize) -> Levels
     requires { ⌜ (k ≤ 64) × Whole k (now d) × Alphabet k x × (r < 64) ⌝ }
     ensures { λ s. ⌜ Backward (machine k (now (d .entry))) (stateCount (now (d .entry))) x (63 - r) (s .sets)
@@ -109,9 +110,9 @@ fn backward(d: &[u8], k: usize, x: [u64; 64], r: usize) -> Levels
 {
     let i = 63 - r;
     let here = ending(x[0], i, automata::accepting(d));
-    if r == 0 {
+    if words::none_from(x[0], i + 1) {
         let mut sets = [0u32; 64];
-        sets[63] = here;
+        sets[i] = here;
         return Levels {
             sets,
             last: UNASKED,
@@ -135,44 +136,33 @@ fn backward(d: &[u8], k: usize, x: [u64; 64], r: usize) -> Levels
 fn lengths(allowed: u64, accepting: u32, before: [u32; 64]) -> u64
     ensures { λ r. ⌜ Lengths 64 allowed accepting before r ⌝ }
 {
+    let mut rest = allowed;
     let mut r: u64 = 0;
-    let mut l: usize = 0;
-    while l < 64 {
-        if ending(allowed, l, accepting) & before[l] != 0 {
-            r = words::single(l) | r;
+    while rest != 0 {
+        let l = words::lowest(rest);
+        let alone = words::single(l);
+        if accepting & before[l] != 0 {
+            r = alone | r;
         }
-        l += 1;
+        rest -= alone;
     }
     r
 }
 
-// The states that a state of the set moves to by symbol a, where the word allows it.
-fn moved(d: &[u8], k: usize, allowed: u64, set: u32, a: usize) -> u32
-    requires { ⌜ (k ≤ 64) × Whole k (now d) × (a < k) ⌝ }
-    ensures { λ r. ⌜ Moved (machine k (now (d .entry))) (stateCount (now (d .entry))) allowed set a r ⌝ }
-{
-    if words::has(allowed, a) {
-        automata::targets(d, k, set, a)
-    } else {
-        0
-    }
-}
-
-// The symbols of a place by which a state reached before it moves to one from which an accepted end is reached after it.
+// The symbols of a place by which a state reached before it moves to one from which an accepted end is reached after it. Only what the word allows is tried.
 fn symbols(d: &[u8], k: usize, allowed: u64, before: u32, after: u32) -> u64
     requires { ⌜ (k ≤ 64) × Whole k (now d) ⌝ }
     ensures { λ r. ⌜ Symbols (machine k (now (d .entry))) (stateCount (now (d .entry))) k allowed before after r ⌝ }
 {
-    if allowed == 0 {
-        return 0;
-    }
+    let mut rest = automata::below(allowed, k);
     let mut r: u64 = 0;
-    let mut a: usize = 0;
-    while a < k {
-        if moved(d, k, allowed, before, a) & after != 0 {
-            r = words::single(a) | r;
+    while rest != 0 {
+        let a = words::lowest(rest);
+        let alone = words::single(a);
+        if automata::leads(d, k, before, after, a) {
+            r = alone | r;
         }
-        a += 1;
+        rest -= alone;
     }
     r
 }

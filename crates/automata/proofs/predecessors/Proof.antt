@@ -1,38 +1,39 @@
-use mathlib.Core.Path.{sym, _∙_}
+use mathlib.Core.Path.{_≡_}
 use mathlib.Core.Logic.{⊎-elim}
 use Prim.Native.Nat.{_-_, _≤_}
 use native.Mathlib.Omega.{arith}
 use Rattle.automata.specs.Machine.{stateCount, machine}
-use Rattle.automata.specs.Sets.{Predecessors}
-use Rattle.automata.proofs.SetLaws.{gathered-empty, no-bit, gathered-none, gathered-upto, predecessors-skip, predecessors-add}
+use Rattle.automata.specs.Sets.{Gathered}
+use Rattle.automata.proofs.SetLaws.{Entering, gathered-none, gathered-upto, predecessors-skip, predecessors-add, predecessors-end}
 use borrow.Author.Needs.{needs}
 use Rattle.automata.proofs.predecessors.Statement.{statement}
 use Rattle.automata.proofs.predecessors.Tie as tie
 use Rattle.automata.proofs.predecessors.Reads as reads
 use Rattle.automata.proofs.predecessors.Lts as lts
-use Rattle.automata.proofs.sources.Reads as sources-reads
-use Rattle.words.proofs.has.Reads as has-reads
+use Rattle.automata.proofs.enters.Reads as enters-reads
+use Rattle.automata.proofs.only.Reads as only-reads
+use Rattle.automata.proofs.states.Reads as states-reads
 
 abbrev Inv-loop : tie.InvT-loop
-Inv-loop d k set symbols r₀ a₀ r a = (a ≤ k) × Predecessors (machine k d) (stateCount d) a set symbols r
+Inv-loop d k set symbols q found₀ p₀ found p = (p ≤ q) × (q ≡ stateCount d) × Gathered p (Entering (machine k d) k set symbols) found
 
 abbrev μ-loop : tie.MeasureT-loop
-μ-loop d k set symbols r₀ a₀ r a = k - a
+μ-loop d k set symbols q found₀ p₀ found p = q - p
 
-returns : tie.Need-returns Inv-loop μ-loop
-returns c = gathered-empty _ _ (λ i t x. no-bit _ i (c .if1 .taken) (x .0))
+states-requires : tie.Need-states-requires Inv-loop μ-loop
+states-requires c κs = search needs
 
 loop-holds : tie.Need-loop-holds Inv-loop μ-loop
-loop-holds c = (search needs, gathered-none _)
+loop-holds c = (search needs, search needs, gathered-none _)
 
-has-requires : tie.Need-has-requires Inv-loop μ-loop
-has-requires c κs = search needs
+enters-requires : tie.Need-enters-requires Inv-loop μ-loop
+enters-requires c κs = search needs
 
-sources-requires : tie.Need-sources-requires Inv-loop μ-loop
-sources-requires c κs = search needs
+only-requires : tie.Need-only-requires Inv-loop μ-loop
+only-requires c κs = search needs
 
-add-a : tie.Need-add-a Inv-loop μ-loop
-add-a c = search needs
+add-p : tie.Need-add-p Inv-loop μ-loop
+add-p c = search needs
 
 loop-less : tie.Need-loop-less Inv-loop μ-loop
 loop-less c = search needs
@@ -40,18 +41,19 @@ loop-less c = search needs
 loop-again : tie.Need-loop-again Inv-loop μ-loop
 loop-again c =
     let l = c .before .before .before .loop in
-    let h = c .before .has .ensures in (
+    let x = c .before .enters .ensures in (
       search needs,
+      l .inv .1,
       ⊎-elim
-          (λ w. predecessors-add _ _ _ _ _ _ _ _ (l .inv .1) (sym h ∙ w .0 .taken) (w .1 .ensures) (w .2))
-          (λ w. predecessors-skip _ _ _ _ _ _ _ (l .inv .1) (sym h ∙ w .0 .left) (w .1))
-          (c .if2 .came),
+          (λ w. predecessors-add _ _ _ _ _ _ _ _ (l .inv .2) x _ (w .0 .taken) (w .1 .ensures) (w .2))
+          (λ w. predecessors-skip _ _ _ _ _ _ _ _ (l .inv .2) x (w .0 .left) (w .1))
+          (c .if1 .came),
     )
 
-returns-2 : tie.Need-returns-2 Inv-loop μ-loop
-returns-2 c =
+returns : tie.Need-returns Inv-loop μ-loop
+returns c =
     let l = c .before .loop in
-    gathered-upto _ _ _ _ (omega arith) (l .inv .1)
+    predecessors-end _ _ _ _ _ _ (gathered-upto _ _ _ _ (omega (arith, l .inv .1)) (l .inv .2))
 
 pub predecessors-spec : {M : Type 1} → statement M
 predecessors-spec =
@@ -59,11 +61,11 @@ predecessors-spec =
     (tie.spec
     Inv-loop
     μ-loop
-    returns
+    states-requires
     loop-holds
-    has-requires
-    sources-requires
-    add-a
+    enters-requires
+    only-requires
+    add-p
     loop-less
     loop-again
-    returns-2)
+    returns)

@@ -1,57 +1,55 @@
-use mathlib.Core.Path.{sym, _∙_}
-use mathlib.Core.Logic.{⊎-elim}
-use Prim.Native.Nat.{_-_, _≤_}
+use mathlib.Core.Path.{_≡_}
 use native.Mathlib.Omega.{arith}
 use Rattle.automata.specs.Machine.{stateCount, machine}
-use Rattle.automata.specs.Sets.{Successors}
-use Rattle.automata.proofs.SetLaws.{gathered-empty, no-bit, gathered-none, gathered-upto, successors-skip, successors-add}
+use Rattle.automata.proofs.SetLaws.{Walked, ByState, walked-start, walked-next, walked-end, lowest-off, successors-add, successors-end}
 use borrow.Author.Needs.{needs}
 use Rattle.automata.proofs.successors.Statement.{statement}
 use Rattle.automata.proofs.successors.Tie as tie
 use Rattle.automata.proofs.successors.Reads as reads
 use Rattle.automata.proofs.successors.Lts as lts
-use Rattle.automata.proofs.targets.Reads as targets-reads
-use Rattle.words.proofs.has.Reads as has-reads
+use Rattle.automata.proofs.below.Reads as below-reads
+use Rattle.automata.proofs.moves.Reads as moves-reads
+use Rattle.automata.proofs.states.Reads as states-reads
+use Rattle.words.proofs.lowest.Reads as lowest-reads
+use Rattle.words.proofs.single.Reads as single-reads
 
 abbrev Inv-loop : tie.InvT-loop
-Inv-loop d k set symbols r₀ a₀ r a = (a ≤ k) × Successors (machine k d) (stateCount d) a set symbols r
+Inv-loop d k set symbols rest₀ r₀ rest r = Walked (stateCount d) set (ByState (machine k d) k set symbols) rest r
 
 abbrev μ-loop : tie.MeasureT-loop
-μ-loop d k set symbols r₀ a₀ r a = k - a
+μ-loop d k set symbols rest₀ r₀ rest r = rest
 
-returns : tie.Need-returns Inv-loop μ-loop
-returns c = gathered-empty _ _ (λ i t x. no-bit _ i (c .if1 .taken) (x .0))
+states-requires : tie.Need-states-requires Inv-loop μ-loop
+states-requires c κs = search needs
+
+below-requires : tie.Need-below-requires Inv-loop μ-loop
+below-requires c κs = search needs
 
 loop-holds : tie.Need-loop-holds Inv-loop μ-loop
-loop-holds c = (search needs, gathered-none _)
+loop-holds c = walked-start _ _ _ _ (λ i t x. x .0) (rw (c .before .states .ensures) at (c .below .ensures))
 
-has-requires : tie.Need-has-requires Inv-loop μ-loop
-has-requires c κs = search needs
+lowest-requires : tie.Need-lowest-requires Inv-loop μ-loop
+lowest-requires c κs = search needs
 
-targets-requires : tie.Need-targets-requires Inv-loop μ-loop
-targets-requires c κs = search needs
+moves-requires : tie.Need-moves-requires Inv-loop μ-loop
+moves-requires c κs = (search needs, search needs, walked-next _ _ _ _ _ _ (c .before .before .loop .inv) (c .lowest .ensures))
 
-add-a : tie.Need-add-a Inv-loop μ-loop
-add-a c = search needs
+single-requires : tie.Need-single-requires Inv-loop μ-loop
+single-requires c κs = search needs
+
+sub-rest : tie.Need-sub-rest Inv-loop μ-loop
+sub-rest c = lowest-off _ _ _ (c .before .before .lowest .ensures) (c .single .ensures) .0
 
 loop-less : tie.Need-loop-less Inv-loop μ-loop
-loop-less c = search needs
+loop-less c = lowest-off _ _ _ (c .before .before .lowest .ensures) (c .single .ensures) .1
 
 loop-again : tie.Need-loop-again Inv-loop μ-loop
 loop-again c =
-    let l = c .before .before .before .loop in
-    let h = c .before .has .ensures in (
-      search needs,
-      ⊎-elim
-          (λ w. successors-add _ _ _ _ _ _ _ _ (l .inv .1) (sym h ∙ w .0 .taken) (w .1 .ensures) (w .2))
-          (λ w. successors-skip _ _ _ _ _ _ _ (l .inv .1) (sym h ∙ w .0 .left) (w .1))
-          (c .if2 .came),
-    )
+    let l = c .before .before in
+    successors-add _ _ _ _ _ _ _ _ _ _ (l .before .before .loop .inv) (l .lowest .ensures) (c .single .ensures) (c .before .moves .ensures)
 
-returns-2 : tie.Need-returns-2 Inv-loop μ-loop
-returns-2 c =
-    let l = c .before .loop in
-    gathered-upto _ _ _ _ (omega arith) (l .inv .1)
+returns : tie.Need-returns Inv-loop μ-loop
+returns c = let e : c .before .loop .rest ≡ 0 = omega arith in successors-end _ _ _ _ _ _ (walked-end _ _ _ _ _ e (c .before .loop .inv))
 
 pub successors-spec : {M : Type 1} → statement M
 successors-spec =
@@ -59,11 +57,13 @@ successors-spec =
     (tie.spec
     Inv-loop
     μ-loop
-    returns
+    states-requires
+    below-requires
     loop-holds
-    has-requires
-    targets-requires
-    add-a
+    lowest-requires
+    moves-requires
+    single-requires
+    sub-rest
     loop-less
     loop-again
-    returns-2)
+    returns)

@@ -1,16 +1,17 @@
-use mathlib.Core.Path.{_≡_}
+use mathlib.Core.Path.{_≡_, sym, _∙_}
 use Prim.Native.Nat.{ℕ, _-_, _≤_, _<_}
 use native.Mathlib.Omega.{arith}
 use borrow.Author.Count.{below-more}
 use lib.ListN.{length, getD}
 use Rattle.model.specs.Words.{bits}
+use Rattle.laws.proofs.BitsLaws.{several-true, several-false}
 use Rattle.neq.proofs.SingleLaws.{has-several, none-several}
 use borrow.Author.Needs.{needs}
 use Rattle.neq.proofs.single.Statement.{statement}
 use Rattle.neq.proofs.single.Tie as tie
 use Rattle.neq.proofs.single.Reads as reads
 use Rattle.neq.proofs.single.Lts as lts
-use Rattle.words.proofs.count.Reads as count-reads
+use Rattle.words.proofs.several.Reads as several-reads
 
 abbrev Inv-loop : tie.InvT-loop
 Inv-loop v i₀ i = (i ≤ 64) × ((j : ℕ) → j < i → length (bits (getD v j 0)) < 2)
@@ -21,17 +22,17 @@ abbrev μ-loop : tie.MeasureT-loop
 loop-holds : tie.Need-loop-holds Inv-loop μ-loop
 loop-holds c = search needs
 
-mul-count : tie.Need-mul-count Inv-loop μ-loop
-mul-count c = search needs
+mul-several : tie.Need-mul-several Inv-loop μ-loop
+mul-several c = search needs
 
-array-read-count : tie.Need-array-read-count Inv-loop μ-loop
-array-read-count c = search needs
+array-read-several : tie.Need-array-read-several Inv-loop μ-loop
+array-read-several c = search needs
 
-count-requires : tie.Need-count-requires Inv-loop μ-loop
-count-requires c κs = search needs
+several-requires : tie.Need-several-requires Inv-loop μ-loop
+several-requires c κs = search needs
 
 returns : tie.Need-returns Inv-loop μ-loop
-returns c = has-several (c .before .before .before .before .args .t1) (c .before .before .before .loop .i) (search needs) (rw (← c .before .count .ensures) (omega arith))
+returns c = has-several (c .before .before .before .before .args .t1) (c .before .before .before .loop .i) (search needs) (several-true _ (sym (c .before .several .ensures) ∙ c .if1 .taken))
 
 add-i : tie.Need-add-i Inv-loop μ-loop
 add-i c = search needs
@@ -40,7 +41,7 @@ loop-less : tie.Need-loop-less Inv-loop μ-loop
 loop-less c = search needs
 
 loop-again : tie.Need-loop-again Inv-loop μ-loop
-loop-again c = (search needs, below-more _ _ (c .before .before .before .loop .inv .1) (rw (← c .before .count .ensures) (omega arith)))
+loop-again c = (search needs, below-more _ _ (c .before .before .before .loop .inv .1) (several-false _ (sym (c .before .several .ensures) ∙ c .if1 .left)))
 
 returns-2 : tie.Need-returns-2 Inv-loop μ-loop
 returns-2 c =
@@ -55,9 +56,9 @@ single-spec =
     Inv-loop
     μ-loop
     loop-holds
-    mul-count
-    array-read-count
-    count-requires
+    mul-several
+    array-read-several
+    several-requires
     returns
     add-i
     loop-less

@@ -1,12 +1,13 @@
-use Prim.Native.Nat.{ℕ, _<_}
 use native.Mathlib.Omega.{arith}
 use borrow.Author.Needs.{needs}
 use mathlib.Core.Path.{refl, sym, _∙_}
+use lib.ListN.{replicate, length-replicate, getD-replicate}
 use Rattle.rows.proofs.Fill.{array-words}
 use Rattle.automata.specs.Machine.{stateCount, machine}
 use Rattle.automata.proofs.MachineLaws.{machine-accepting}
 use Rattle.automata.proofs.SetLaws.{gathered-empty, no-bit}
-use Rattle.regular.proofs.StateLaws.{machine-suited, backward-last, backward-next}
+use Rattle.regular.proofs.StateLaws.{machine-suited, some-left, backward-last, backward-next}
+use Prim.Native.Nat.{ℕ, _<_}
 use borrow.Fn.Kinds.{In}
 use borrow.Fn.PlainCycle.{Measures, is, falls, and}
 use Rattle.regular.proofs.backward.Reads as backward
@@ -15,6 +16,7 @@ use Rattle.regular.proofs.+backward.Lts-backward as backward-lts
 use Rattle.automata.proofs.accepting.Reads as accepting-reads
 use Rattle.regular.proofs.ending.Reads as ending-reads
 use Rattle.regular.proofs.predecessors.Reads as predecessors-reads
+use Rattle.words.proofs.none_from.Reads as none-from-reads
 use Rattle.regular.proofs.+backward.{statement}
 use Rattle.regular.proofs.+backward.Tie.{close}
 
@@ -33,6 +35,8 @@ backward-sub-i : (t : ℕ) → backward-lts.Need-sub-i (
   accepting-reads.Learnt,
   ending-reads.Asked,
   ending-reads.Learnt,
+  none-from-reads.Asked,
+  none-from-reads.Learnt,
   backward-below t,
   backward.Post,
   predecessors-reads.Asked,
@@ -45,6 +49,8 @@ backward-array-read-ending : (t : ℕ) → backward-lts.Need-array-read-ending (
   accepting-reads.Learnt,
   ending-reads.Asked,
   ending-reads.Learnt,
+  none-from-reads.Asked,
+  none-from-reads.Learnt,
   backward-below t,
   backward.Post,
   predecessors-reads.Asked,
@@ -57,6 +63,8 @@ backward-accepting-requires : (t : ℕ) → backward-lts.Need-accepting-requires
   accepting-reads.Learnt,
   ending-reads.Asked,
   ending-reads.Learnt,
+  none-from-reads.Asked,
+  none-from-reads.Learnt,
   backward-below t,
   backward.Post,
   predecessors-reads.Asked,
@@ -69,6 +77,8 @@ backward-ending-requires : (t : ℕ) → backward-lts.Need-ending-requires (
   accepting-reads.Learnt,
   ending-reads.Asked,
   ending-reads.Learnt,
+  none-from-reads.Asked,
+  none-from-reads.Learnt,
   backward-below t,
   backward.Post,
   predecessors-reads.Asked,
@@ -76,11 +86,69 @@ backward-ending-requires : (t : ℕ) → backward-lts.Need-ending-requires (
 ) (backward-at t) backward.Post
 backward-ending-requires t c κs = search needs
 
+backward-array-read-none-from : (t : ℕ) → backward-lts.Need-array-read-none-from (
+  accepting-reads.Asked,
+  accepting-reads.Learnt,
+  ending-reads.Asked,
+  ending-reads.Learnt,
+  none-from-reads.Asked,
+  none-from-reads.Learnt,
+  backward-below t,
+  backward.Post,
+  predecessors-reads.Asked,
+  predecessors-reads.Learnt,
+) (backward-at t) backward.Post
+backward-array-read-none-from t c = search needs
+
+backward-add-none-from : (t : ℕ) → backward-lts.Need-add-none-from (
+  accepting-reads.Asked,
+  accepting-reads.Learnt,
+  ending-reads.Asked,
+  ending-reads.Learnt,
+  none-from-reads.Asked,
+  none-from-reads.Learnt,
+  backward-below t,
+  backward.Post,
+  predecessors-reads.Asked,
+  predecessors-reads.Learnt,
+) (backward-at t) backward.Post
+backward-add-none-from t c = search needs
+
+backward-none-from-requires : (t : ℕ) → backward-lts.Need-none-from-requires (
+  accepting-reads.Asked,
+  accepting-reads.Learnt,
+  ending-reads.Asked,
+  ending-reads.Learnt,
+  none-from-reads.Asked,
+  none-from-reads.Learnt,
+  backward-below t,
+  backward.Post,
+  predecessors-reads.Asked,
+  predecessors-reads.Learnt,
+) (backward-at t) backward.Post
+backward-none-from-requires t c κs = search needs
+
+backward-mul-sets : (t : ℕ) → backward-lts.Need-mul-sets (
+  accepting-reads.Asked,
+  accepting-reads.Learnt,
+  ending-reads.Asked,
+  ending-reads.Learnt,
+  none-from-reads.Asked,
+  none-from-reads.Learnt,
+  backward-below t,
+  backward.Post,
+  predecessors-reads.Asked,
+  predecessors-reads.Learnt,
+) (backward-at t) backward.Post
+backward-mul-sets t c = search needs
+
 backward-array-write-sets : (t : ℕ) → backward-lts.Need-array-write-sets (
   accepting-reads.Asked,
   accepting-reads.Learnt,
   ending-reads.Asked,
   ending-reads.Learnt,
+  none-from-reads.Asked,
+  none-from-reads.Learnt,
   backward-below t,
   backward.Post,
   predecessors-reads.Asked,
@@ -93,19 +161,22 @@ backward-returns : (t : ℕ) → backward-lts.Need-returns (
   accepting-reads.Learnt,
   ending-reads.Asked,
   ending-reads.Learnt,
+  none-from-reads.Asked,
+  none-from-reads.Learnt,
   backward-below t,
   backward.Post,
   predecessors-reads.Asked,
   predecessors-reads.Learnt,
 ) (backward-at t) backward.Post
 backward-returns t c =
-    let s = c .before .before .before .before in
+    let s = c .before .before .before .before .before in
     let x = s .args .t3 in
     let d = s .args .d .now in
     let k = s .args .k in
     let fit = machine-suited k d x (s .pre .1 .1) (s .pre .1 .2) (search needs) (array-words x (λ i. search needs)) in (
-      backward-last (machine k d) (stateCount d) k x fit (s .args .r) (c .before .before .accepting .result) _ _ (c .if1 .taken)
-          (c .before .before .accepting .ensures ∙ sym (machine-accepting k d)) (c .before .ending .ensures) refl,
+      backward-last (machine k d) (stateCount d) k x fit (s .args .r) (c .before .before .before .accepting .result) _ (replicate 64 0) (length-replicate {A = ℕ} 64 0)
+          (λ j l. getD-replicate 64 j 0 0 l) (s .pre .1 .3) (sym (c .before .none-from .ensures) ∙ c .if1 .taken)
+          (c .before .before .before .accepting .ensures ∙ sym (machine-accepting k d)) (c .before .before .ending .ensures),
       gathered-empty _ _ (λ i t x. no-bit _ i refl (x .0)),
     )
 
@@ -114,25 +185,30 @@ backward-sub-backward : (t : ℕ) → backward-lts.Need-sub-backward (
   accepting-reads.Learnt,
   ending-reads.Asked,
   ending-reads.Learnt,
+  none-from-reads.Asked,
+  none-from-reads.Learnt,
   backward-below t,
   backward.Post,
   predecessors-reads.Asked,
   predecessors-reads.Learnt,
 ) (backward-at t) backward.Post
-backward-sub-backward t c = search needs
+backward-sub-backward t c = some-left _ _ (sym (c .before .none-from .ensures) ∙ c .if1 .left)
 
 backward-backward-requires : (t : ℕ) → backward-lts.Need-backward-requires (
   accepting-reads.Asked,
   accepting-reads.Learnt,
   ending-reads.Asked,
   ending-reads.Learnt,
+  none-from-reads.Asked,
+  none-from-reads.Learnt,
   backward-below t,
   backward.Post,
   predecessors-reads.Asked,
   predecessors-reads.Learnt,
 ) (backward-at t) backward.Post
 backward-backward-requires t c κs =
-    let s = c .before .before .before .before in
+    let s = c .before .before .before .before .before in
+    let some = some-left _ _ (sym (c .before .none-from .ensures) ∙ c .if1 .left) in
     (omega arith, (s .pre .1 .0, s .pre .1 .1, s .pre .1 .2, omega arith))
 
 backward-add-set : (t : ℕ) → backward-lts.Need-add-set (
@@ -140,6 +216,8 @@ backward-add-set : (t : ℕ) → backward-lts.Need-add-set (
   accepting-reads.Learnt,
   ending-reads.Asked,
   ending-reads.Learnt,
+  none-from-reads.Asked,
+  none-from-reads.Learnt,
   backward-below t,
   backward.Post,
   predecessors-reads.Asked,
@@ -152,6 +230,8 @@ backward-mul-set : (t : ℕ) → backward-lts.Need-mul-set (
   accepting-reads.Learnt,
   ending-reads.Asked,
   ending-reads.Learnt,
+  none-from-reads.Asked,
+  none-from-reads.Learnt,
   backward-below t,
   backward.Post,
   predecessors-reads.Asked,
@@ -164,18 +244,22 @@ backward-element-copy-out-set : (t : ℕ) → backward-lts.Need-element-copy-out
   accepting-reads.Learnt,
   ending-reads.Asked,
   ending-reads.Learnt,
+  none-from-reads.Asked,
+  none-from-reads.Learnt,
   backward-below t,
   backward.Post,
   predecessors-reads.Asked,
   predecessors-reads.Learnt,
 ) (backward-at t) backward.Post
-backward-element-copy-out-set t c = search needs
+backward-element-copy-out-set t c = let some = some-left _ _ (sym (c .before .before .none-from .ensures) ∙ c .before .if1 .left) in omega arith
 
 backward-add-symbols : (t : ℕ) → backward-lts.Need-add-symbols (
   accepting-reads.Asked,
   accepting-reads.Learnt,
   ending-reads.Asked,
   ending-reads.Learnt,
+  none-from-reads.Asked,
+  none-from-reads.Learnt,
   backward-below t,
   backward.Post,
   predecessors-reads.Asked,
@@ -188,6 +272,8 @@ backward-mul-symbols : (t : ℕ) → backward-lts.Need-mul-symbols (
   accepting-reads.Learnt,
   ending-reads.Asked,
   ending-reads.Learnt,
+  none-from-reads.Asked,
+  none-from-reads.Learnt,
   backward-below t,
   backward.Post,
   predecessors-reads.Asked,
@@ -200,18 +286,22 @@ backward-array-read-symbols : (t : ℕ) → backward-lts.Need-array-read-symbols
   accepting-reads.Learnt,
   ending-reads.Asked,
   ending-reads.Learnt,
+  none-from-reads.Asked,
+  none-from-reads.Learnt,
   backward-below t,
   backward.Post,
   predecessors-reads.Asked,
   predecessors-reads.Learnt,
 ) (backward-at t) backward.Post
-backward-array-read-symbols t c = search needs
+backward-array-read-symbols t c = let some = some-left _ _ (sym (c .before .before .before .none-from .ensures) ∙ c .before .before .if1 .left) in omega arith
 
 backward-predecessors-requires : (t : ℕ) → backward-lts.Need-predecessors-requires (
   accepting-reads.Asked,
   accepting-reads.Learnt,
   ending-reads.Asked,
   ending-reads.Learnt,
+  none-from-reads.Asked,
+  none-from-reads.Learnt,
   backward-below t,
   backward.Post,
   predecessors-reads.Asked,
@@ -224,6 +314,8 @@ backward-mul-behind : (t : ℕ) → backward-lts.Need-mul-behind (
   accepting-reads.Learnt,
   ending-reads.Asked,
   ending-reads.Learnt,
+  none-from-reads.Asked,
+  none-from-reads.Learnt,
   backward-below t,
   backward.Post,
   predecessors-reads.Asked,
@@ -236,6 +328,8 @@ backward-element-write-behind : (t : ℕ) → backward-lts.Need-element-write-be
   accepting-reads.Learnt,
   ending-reads.Asked,
   ending-reads.Learnt,
+  none-from-reads.Asked,
+  none-from-reads.Learnt,
   backward-below t,
   backward.Post,
   predecessors-reads.Asked,
@@ -248,6 +342,8 @@ backward-returns-2 : (t : ℕ) → backward-lts.Need-returns-2 (
   accepting-reads.Learnt,
   ending-reads.Asked,
   ending-reads.Learnt,
+  none-from-reads.Asked,
+  none-from-reads.Learnt,
   backward-below t,
   backward.Post,
   predecessors-reads.Asked,
@@ -255,14 +351,14 @@ backward-returns-2 : (t : ℕ) → backward-lts.Need-returns-2 (
 ) (backward-at t) backward.Post
 backward-returns-2 t c =
     let b = c .before .before .before in
-    let e = b .before .before in
+    let e = b .before .before .before in
     let s = e .before .before .before in
     let x = s .args .t3 in
     let d = s .args .d .now in
     let k = s .args .k in
     let fit = machine-suited k d x (s .pre .1 .1) (s .pre .1 .2) (search needs) (array-words x (λ i. search needs)) in (
       backward-next (machine k d) (stateCount d) k x fit (s .args .r) (e .before .accepting .result) _ _ _ (search (needs, b .backward .ok))
-          (b .before .if1 .left) (s .pre .1 .3)
+          (some-left _ _ (sym (b .before .before .none-from .ensures) ∙ b .before .if1 .left)) (s .pre .1 .3)
           (e .before .accepting .ensures ∙ sym (machine-accepting k d)) (e .ending .ensures) (b .backward .ensures .0) (c .predecessors .ensures),
       c .predecessors .ensures,
     )
@@ -273,6 +369,8 @@ pub +backward-spec : {M : Type 1} → statement M
   accepting-reads.Learnt,
   ending-reads.Asked,
   ending-reads.Learnt,
+  none-from-reads.Asked,
+  none-from-reads.Learnt,
   backward-below t,
   backward.Post,
   predecessors-reads.Asked,
@@ -284,6 +382,10 @@ pub +backward-spec : {M : Type 1} → statement M
     (backward-array-read-ending t)
     (backward-accepting-requires t)
     (backward-ending-requires t)
+    (backward-array-read-none-from t)
+    (backward-add-none-from t)
+    (backward-none-from-requires t)
+    (backward-mul-sets t)
     (backward-array-write-sets t)
     (backward-returns t)
     (backward-sub-backward t)

@@ -1,57 +1,59 @@
+use mathlib.Core.Path.{_≡_}
 use mathlib.Core.Logic.{⊎-elim}
-use Prim.Native.Nat.{_-_, _≤_}
 use native.Mathlib.Omega.{arith}
 use Rattle.automata.specs.Machine.{stateCount, machine}
-use Rattle.regular.specs.Sets.{Symbols}
-use Rattle.automata.proofs.SetLaws.{gathered-empty, no-bit, gathered-none, gathered-upto}
-use Rattle.regular.proofs.RegularLaws.{symbols-skip, symbols-add}
+use Rattle.automata.proofs.SetLaws.{Walked, walked-start, walked-next, walked-end, lowest-off}
+use Rattle.regular.proofs.RegularLaws.{Leading, symbols-skip, symbols-add}
 use borrow.Author.Needs.{needs}
 use Rattle.regular.proofs.symbols.Statement.{statement}
 use Rattle.regular.proofs.symbols.Tie as tie
 use Rattle.regular.proofs.symbols.Reads as reads
 use Rattle.regular.proofs.symbols.Lts as lts
-use Rattle.regular.proofs.moved.Reads as moved-reads
+use Rattle.automata.proofs.below.Reads as below-reads
+use Rattle.automata.proofs.leads.Reads as leads-reads
+use Rattle.words.proofs.lowest.Reads as lowest-reads
 use Rattle.words.proofs.single.Reads as single-reads
 
 abbrev Inv-loop : tie.InvT-loop
-Inv-loop d k allowed before after r₀ a₀ r a = (a ≤ k) × Symbols (machine k d) (stateCount d) a allowed before after r
+Inv-loop d k allowed before after rest₀ r₀ rest r = Walked k allowed (Leading (machine k d) (stateCount d) allowed before after) rest r
 
 abbrev μ-loop : tie.MeasureT-loop
-μ-loop d k allowed before after r₀ a₀ r a = k - a
+μ-loop d k allowed before after rest₀ r₀ rest r = rest
 
-returns : tie.Need-returns Inv-loop μ-loop
-returns c = gathered-empty _ _ (λ i t x. no-bit _ i (c .if1 .taken) (x .1))
+below-requires : tie.Need-below-requires Inv-loop μ-loop
+below-requires c κs = search needs
 
 loop-holds : tie.Need-loop-holds Inv-loop μ-loop
-loop-holds c = (search needs, gathered-none _)
+loop-holds c = walked-start _ _ _ _ (λ i t x. x .1) (c .below .ensures)
 
-moved-requires : tie.Need-moved-requires Inv-loop μ-loop
-moved-requires c κs = search needs
+lowest-requires : tie.Need-lowest-requires Inv-loop μ-loop
+lowest-requires c κs = search needs
 
 single-requires : tie.Need-single-requires Inv-loop μ-loop
 single-requires c κs = search needs
 
-add-a : tie.Need-add-a Inv-loop μ-loop
-add-a c = search needs
+leads-requires : tie.Need-leads-requires Inv-loop μ-loop
+leads-requires c κs = (search needs, search needs, walked-next _ _ _ _ _ _ (c .before .before .before .loop .inv) (c .before .lowest .ensures))
+
+sub-rest : tie.Need-sub-rest Inv-loop μ-loop
+sub-rest c = lowest-off _ _ _ (c .before .before .before .lowest .ensures) (c .before .before .single .ensures) .0
 
 loop-less : tie.Need-loop-less Inv-loop μ-loop
-loop-less c = search needs
+loop-less c = lowest-off _ _ _ (c .before .before .before .lowest .ensures) (c .before .before .single .ensures) .1
 
 loop-again : tie.Need-loop-again Inv-loop μ-loop
 loop-again c =
-    let l = c .before .before .before .loop in
-    let e = c .before .moved .ensures in (
-      search needs,
-      ⊎-elim
-          (λ w. symbols-add _ _ _ _ _ _ _ _ _ (l .inv .1) e _ (search needs) (w .0 .taken) (w .1 .ensures) (w .2))
-          (λ w. symbols-skip _ _ _ _ _ _ _ _ _ (l .inv .1) e (w .0 .left) (w .1))
-          (c .if2 .came),
-    )
+    let l = c .before .before .before in
+    let g = l .before .before .loop .inv in
+    let o = c .before .before .single .ensures in
+    let x = c .before .leads .ensures in
+    ⊎-elim
+    (λ w. symbols-add _ _ _ _ _ _ _ _ _ _ _ _ g (l .lowest .ensures) o x (w .0 .taken) (w .1))
+    (λ w. symbols-skip _ _ _ _ _ _ _ _ _ _ _ _ g (l .lowest .ensures) o x (w .0 .left) (w .1))
+    (c .if1 .came)
 
-returns-2 : tie.Need-returns-2 Inv-loop μ-loop
-returns-2 c =
-    let l = c .before .loop in
-    gathered-upto _ _ _ _ (omega arith) (l .inv .1)
+returns : tie.Need-returns Inv-loop μ-loop
+returns c = let e : c .before .loop .rest ≡ 0 = omega arith in walked-end _ _ _ _ _ e (c .before .loop .inv)
 
 pub symbols-spec : {M : Type 1} → statement M
 symbols-spec =
@@ -59,11 +61,12 @@ symbols-spec =
     (tie.spec
     Inv-loop
     μ-loop
-    returns
+    below-requires
     loop-holds
-    moved-requires
+    lowest-requires
     single-requires
-    add-a
+    leads-requires
+    sub-rest
     loop-less
     loop-again
-    returns-2)
+    returns)

@@ -1,0 +1,78 @@
+use mathlib.Core.Path.{_≡_, sym, _∙_}
+use native.Mathlib.Omega.{arith}
+use Rattle.model.specs.Constraints.{move}
+use Rattle.automata.specs.Machine.{machine}
+use Rattle.automata.proofs.SetLaws.{Walked, Hit, walked-start, walked-next, lowest-off, hit-none, hit-one, hit-skip}
+use borrow.Author.Needs.{needs}
+use Rattle.automata.proofs.enters.Statement.{statement}
+use Rattle.automata.proofs.enters.Tie as tie
+use Rattle.automata.proofs.enters.Reads as reads
+use Rattle.automata.proofs.enters.Lts as lts
+use Rattle.automata.proofs.below.Reads as below-reads
+use Rattle.automata.proofs.next.Reads as next-reads
+use Rattle.words.proofs.has.Reads as has-reads
+use Rattle.words.proofs.lowest.Reads as lowest-reads
+use Rattle.words.proofs.single.Reads as single-reads
+
+abbrev Inv-loop : tie.InvT-loop
+Inv-loop d k p set symbols rest₀ rest = Walked k symbols (λ i t. Hit symbols set (λ a. move (machine k d) p a) i) rest 0
+
+abbrev μ-loop : tie.MeasureT-loop
+μ-loop d k p set symbols rest₀ rest = rest
+
+below-requires : tie.Need-below-requires Inv-loop μ-loop
+below-requires c κs = search needs
+
+loop-holds : tie.Need-loop-holds Inv-loop μ-loop
+loop-holds c = walked-start _ _ _ _ (λ i t x. x .0) (c .below .ensures)
+
+lowest-requires : tie.Need-lowest-requires Inv-loop μ-loop
+lowest-requires c κs = search needs
+
+next-requires : tie.Need-next-requires Inv-loop μ-loop
+next-requires c κs = (search needs, search needs, search needs, walked-next _ _ _ _ _ _ (c .before .before .loop .inv) (c .lowest .ensures))
+
+has-requires : tie.Need-has-requires Inv-loop μ-loop
+has-requires c κs = search needs
+
+returns : tie.Need-returns Inv-loop μ-loop
+returns c =
+    let l = c .before .before .before in
+    let e = sym (c .before .has .ensures) ∙ c .if1 .taken in
+    hit-one _ _ _ _ _ (l .before .before .loop .inv) _ _ (l .lowest .ensures) (c .before .before .next .ensures .0) e
+
+single-requires : tie.Need-single-requires Inv-loop μ-loop
+single-requires c κs = search needs
+
+sub-rest : tie.Need-sub-rest Inv-loop μ-loop
+sub-rest c = lowest-off _ _ _ (c .before .before .before .before .lowest .ensures) (c .single .ensures) .0
+
+loop-less : tie.Need-loop-less Inv-loop μ-loop
+loop-less c = lowest-off _ _ _ (c .before .before .before .before .lowest .ensures) (c .single .ensures) .1
+
+loop-again : tie.Need-loop-again Inv-loop μ-loop
+loop-again c =
+    let l = c .before .before .before .before in
+    let e = sym (c .before .before .has .ensures) ∙ c .before .if1 .left in
+    hit-skip _ _ _ _ _ (l .before .before .loop .inv) _ _ (l .lowest .ensures) (c .before .before .before .next .ensures .0) _ (c .single .ensures) e
+
+returns-2 : tie.Need-returns-2 Inv-loop μ-loop
+returns-2 c = let e : c .before .loop .rest ≡ 0 = omega arith in hit-none _ _ _ _ _ (c .before .loop .inv) e
+
+pub enters-spec : {M : Type 1} → statement M
+enters-spec =
+    tie.close
+    (tie.spec
+    Inv-loop
+    μ-loop
+    below-requires
+    loop-holds
+    lowest-requires
+    next-requires
+    has-requires
+    returns
+    single-requires
+    sub-rest
+    loop-less
+    loop-again
+    returns-2)

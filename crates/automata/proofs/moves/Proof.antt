@@ -1,0 +1,69 @@
+use mathlib.Core.Path.{_≡_}
+use native.Mathlib.Omega.{arith}
+use Rattle.automata.specs.Machine.{machine}
+use Rattle.automata.proofs.SetLaws.{Walked, BySymbol, walked-start, walked-next, walked-end, lowest-off, moves-add}
+use borrow.Author.Needs.{needs}
+use Rattle.automata.proofs.moves.Statement.{statement}
+use Rattle.automata.proofs.moves.Tie as tie
+use Rattle.automata.proofs.moves.Reads as reads
+use Rattle.automata.proofs.moves.Lts as lts
+use Rattle.automata.proofs.below.Reads as below-reads
+use Rattle.automata.proofs.next.Reads as next-reads
+use Rattle.automata.proofs.only.Reads as only-reads
+use Rattle.words.proofs.lowest.Reads as lowest-reads
+use Rattle.words.proofs.single.Reads as single-reads
+
+abbrev Inv-loop : tie.InvT-loop
+Inv-loop d k p symbols rest₀ r₀ rest r = Walked k symbols (BySymbol (machine k d) p symbols) rest r
+
+abbrev μ-loop : tie.MeasureT-loop
+μ-loop d k p symbols rest₀ r₀ rest r = rest
+
+below-requires : tie.Need-below-requires Inv-loop μ-loop
+below-requires c κs = search needs
+
+loop-holds : tie.Need-loop-holds Inv-loop μ-loop
+loop-holds c = walked-start _ _ _ _ (λ i t x. x .0) (c .below .ensures)
+
+lowest-requires : tie.Need-lowest-requires Inv-loop μ-loop
+lowest-requires c κs = search needs
+
+next-requires : tie.Need-next-requires Inv-loop μ-loop
+next-requires c κs = (search needs, search needs, search needs, walked-next _ _ _ _ _ _ (c .before .before .loop .inv) (c .lowest .ensures))
+
+only-requires : tie.Need-only-requires Inv-loop μ-loop
+only-requires c κs = search needs
+
+single-requires : tie.Need-single-requires Inv-loop μ-loop
+single-requires c κs = search needs
+
+sub-rest : tie.Need-sub-rest Inv-loop μ-loop
+sub-rest c = lowest-off _ _ _ (c .before .before .before .lowest .ensures) (c .single .ensures) .0
+
+loop-less : tie.Need-loop-less Inv-loop μ-loop
+loop-less c = lowest-off _ _ _ (c .before .before .before .lowest .ensures) (c .single .ensures) .1
+
+loop-again : tie.Need-loop-again Inv-loop μ-loop
+loop-again c =
+    let l = c .before .before .before in
+    moves-add _ _ _ _ _ _ _ _ _ _ (l .before .before .loop .inv) (l .lowest .ensures) (c .single .ensures) (c .before .before .next .ensures .0) (c .before .only .ensures)
+
+returns : tie.Need-returns Inv-loop μ-loop
+returns c = let e : c .before .loop .rest ≡ 0 = omega arith in walked-end _ _ _ _ _ e (c .before .loop .inv)
+
+pub moves-spec : {M : Type 1} → statement M
+moves-spec =
+    tie.close
+    (tie.spec
+    Inv-loop
+    μ-loop
+    below-requires
+    loop-holds
+    lowest-requires
+    next-requires
+    only-requires
+    single-requires
+    sub-rest
+    loop-less
+    loop-again
+    returns)
