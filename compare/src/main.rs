@@ -43,7 +43,7 @@ struct Arguments {
 
 fn arguments() -> Result<Arguments, String> {
     let threads = std::thread::available_parallelism().map_or(1, usize::from);
-    let mut given = Arguments { cases: 20_000, seed: 1, only: None, program: None, threads, trace: false };
+    let mut given = Arguments { cases: 50_000, seed: 1, only: None, program: None, threads, trace: false };
     let mut words = std::env::args().skip(1);
     while let Some(word) = words.next() {
         if word == "--trace" {
