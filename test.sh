@@ -3,9 +3,14 @@
 set -u
 cd "$(dirname "$0")" || exit 1
 
+# Where cargo is installed for one user, the path may not have it.
+command -v cargo > /dev/null || PATH="$PATH:${CARGO_HOME:-${HOME:-}/.cargo}/bin"
+export PATH
+
 python3 tests/documents.py || exit 1
 python3 tests/edges.py || exit 1
 python3 tests/nodes.py || exit 1
+python3 tests/text.py || exit 1
 
 # One job more than there are processors, since a job also waits; at most 4, for memory.
 jobs=$(($(getconf _NPROCESSORS_ONLN) + 1))
@@ -17,8 +22,11 @@ trap 'rm -rf "$work"' EXIT
 { rt ci 2>&1; echo $? > "$work/status"; } | tee "$work/log"
 [ "$(cat "$work/status")" = 0 ] || exit 1
 
-# The gate has just left the program in target/bin.
+# The gate has just left the program in target/bin; what it has proved is put into an archive for C and Rust.
 python3 tests/clash.py || exit 1
+rt staticlib cobleskeg_c || exit 1
+python3 tests/examples.py || exit 1
+python3 tests/interface.py || exit 1
 
 # The edits must be refused because a fact fails: the gate has just left a log of each.
 python3 tests/must_fail.py || exit 1

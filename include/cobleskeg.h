@@ -1,7 +1,7 @@
 /* Cobleskeg: can two parts of a template set ever produce one name?
  *
- * The entries of the proved library, for programs in C. `rt staticlib cobleskeg_c` builds the archive target/staticlib/libcobleskeg_c.a; nothing else is
- * linked. docs/GUIDE.md says how to model a question as a problem file, and how to read the answer.
+ * The entries of the proved library, for programs in C. `rt staticlib cobleskeg_c` builds the archive target/staticlib/libcobleskeg_c.a; of
+ * other libraries it takes memcpy and memset alone. docs/GUIDE.md says how to model a question as a problem file, and how to read the answer.
  *
  * Tables. The alphabet has k symbols, 0 to k - 1. A problem has s strings and t numbers. A string's row is 64 words: bit l of word 0 allows the length l, bit
  * a of word i (1 to 63) allows the symbol a at place i. A number has one word: bit v allows the value v. A table is the s rows, then the t words of the
@@ -14,7 +14,7 @@
  *    2  file    it does not end in the bytes TAIL
  *    3  file    a count is out of range (k 1 to 64, s and t 0 to 16, automata 0 to 8, constraints 0 to 64), or bytes 6 and 7 of the trailer are not 0
  *    4  file    its parts do not lie one behind the other, as the distances in the trailer must say
- *    5  file    its automata are not exactly as many as it counts, each with 1 to 32 states and every move to one of them
+ *    5  file    its automata are not exactly as many as it counts, each with 1 to 32 states, its accepting ones and the end of every move among them
  *    6  file    a symbol word of its table has a bit at k or above
  *    7  file    a constraint has a kind outside 1 to 7, an argument that names nothing, or an unused one that is not 0
  *    8  file    a constraint names one string twice

@@ -1,5 +1,5 @@
 # The C interface, tested from outside: the C programs and the Rust crates over the archive, and the comparison with the second solver by the thousand.
-#     python3 tests/interface.py [--cases N] [--seed S]        20,000 cases of seed 1, where not said
+#     python3 tests/interface.py [--cases N] [--seed S]        50,000 cases of seed 1, where not said
 # It needs a C compiler and cargo, and what `rt staticlib cobleskeg_c` and `rt check clash` leave in target. All that it builds goes to target too.
 import argparse
 import os
@@ -127,7 +127,7 @@ def rust_tests():
 
 def main():
     parser = argparse.ArgumentParser()
-    parser.add_argument("--cases", type=int, default=20000)
+    parser.add_argument("--cases", type=int, default=50000)
     parser.add_argument("--seed", type=int, default=1)
     given = parser.parse_args()
     missing = [f"target/{path.relative_to(TARGET)} is not there: run `{command}` first" for path, command in MADE_BY.items() if not path.is_file()]
