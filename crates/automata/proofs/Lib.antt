@@ -1,4 +1,4 @@
 -- The laws of an automaton in its bytes, of sets of states gathered by loops, and of automata one after the other.
 pub mod MachineLaws
 pub mod SetLaws
-pub mod WalkLaws
+pub mod AutomataWalkLaws

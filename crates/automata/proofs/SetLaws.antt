@@ -17,7 +17,7 @@ use Rattle.laws.proofs.ListLaws.{and-true, true-and}
 use Rattle.laws.proofs.WordLaws.{zero-bit, pow-self, pow-only, or-bit-left, or-bit-right, of-or-bit, bit-high, bit-le, bit-sub, sub-within}
 use Rattle.laws.proofs.ShiftLaws.{bit-and, bit-mask}
 use Rattle.words.specs.Ends.{Lowest}
-use Rattle.automata.specs.Sets.{Gathered, Found, LowBits, Moves, Enters, Successors, Predecessors}
+use Rattle.automata.specs.StateSets.{Gathered, Found, LowBits, Moves, Enters, Successors, Predecessors}
 
 -- a word that is 0 has no bit
 pub no-bit : (w i : ℕ) → w ≡ 0 → bit w i ≡ true → ⊥

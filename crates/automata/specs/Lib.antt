@@ -1,4 +1,4 @@
 -- The definitions that the contracts of `automata` cite.
 pub mod Machine
-pub mod Sets
+pub mod StateSets
 pub mod Walk

@@ -13,7 +13,7 @@ use Rattle.model.specs.Reading.{pieces}
 abbrev pub stateCount : List ℕ → ℕ
 stateCount bs = getD bs 0 0
 
--- "32 bits of accepting states, then q rows of k bytes": the automaton at the head of these bytes, as the model's `automaton` makes it
+-- "32 bits of accepting states … then q rows of k bytes": the automaton at the head of these bytes, as the model's `automaton` makes it
 unfoldable pub machine : ℕ → List ℕ → Automaton
 machine k bs = record { accepting = little (part 1 4 bs); moves = pieces (stateCount bs) k (drop 5 bs) }
 

@@ -15,7 +15,7 @@ ghost use lib.ListN.{length};
 ghost use Rattle.model.specs.Constraints.{move};
 ghost use Rattle.model.specs.Layout.{little, part};
 ghost use Rattle.automata.specs.Machine.{stateCount, machine, Whole};
-ghost use Rattle.automata.specs.Sets.{LowBits, Moves, Enters, Leads, Successors, Predecessors};
+ghost use Rattle.automata.specs.StateSets.{LowBits, Moves, Enters, Leads, Successors, Predecessors};
 
 // How many states there are.
 pub fn states(d: &[u8]) -> usize
@@ -55,7 +55,7 @@ pub fn below(w: u64, n: usize) -> u64
     ensures { λ r. ⌜ LowBits n w r ⌝ }
 {
     if n < 64 {
-        return w & (words::single(n) - 1);
+        return w & (words::singleton(n) - 1);
     }
     w
 }
@@ -70,7 +70,7 @@ fn moves(d: &[u8], k: usize, p: usize, symbols: u64) -> u32
     while rest != 0 {
         let a = words::lowest(rest);
         r = only(next(d, k, p, a)) | r;
-        rest -= words::single(a);
+        rest -= words::singleton(a);
     }
     r
 }
@@ -86,7 +86,7 @@ fn enters(d: &[u8], k: usize, p: usize, set: u32, symbols: u64) -> bool
         if words::has(set as u64, next(d, k, p, a)) {
             return true;
         }
-        rest -= words::single(a);
+        rest -= words::singleton(a);
     }
     false
 }
@@ -102,7 +102,7 @@ pub fn leads(d: &[u8], k: usize, from: u32, into: u32, a: usize) -> bool
         if words::has(into as u64, next(d, k, p, a)) {
             return true;
         }
-        rest -= words::single(p);
+        rest -= words::singleton(p);
     }
     false
 }
@@ -117,7 +117,7 @@ pub fn successors(d: &[u8], k: usize, set: u32, symbols: u64) -> u32
     while rest != 0 {
         let p = words::lowest(rest);
         r = moves(d, k, p, symbols) | r;
-        rest -= words::single(p);
+        rest -= words::singleton(p);
     }
     r
 }

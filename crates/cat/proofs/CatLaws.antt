@@ -19,10 +19,11 @@ use Rattle.rows.specs.Parts.{Overlay, Window}
 use Rattle.rows.proofs.TrimLaws.{trimmed-supports}
 use Rattle.rows.proofs.MeetLaws.{and-bit, of-and-bit, joined-or}
 use Rattle.rows.proofs.Windows.{take-supports, drop-supports}
+use Rattle.laws.specs.Supported.{InRow, Supports, OfKinds}
 use Rattle.laws.proofs.ListLaws.{same-true, same-refl}
 use Rattle.laws.proofs.ShiftLaws.{bit-shr, of-shifted, in-shifted}
-use Rattle.laws.proofs.RowLaws.{InRow, short-of}
-use Rattle.laws.proofs.Supports.{Supports, OfKinds, moved-support, none-support, next-kind, skip-kind}
+use Rattle.laws.proofs.RowLaws.{short-of}
+use Rattle.laws.proofs.Supports.{moved-support, none-support, next-kind, skip-kind}
 use Rattle.cat.specs.Splits.{Three, Split, Supported, Whole}
 use Rattle.rows.proofs.ChoiceLaws.{some-choice, no-choice}
 use Rattle.cat.proofs.ThreeRows.{Met, three-narrowed}

@@ -14,7 +14,7 @@ use Rattle.model.specs.Support.{narrowed}
 use Rattle.model.specs.Rounds.{variablesOf}
 use Rattle.rows.specs.Rows.{alone}
 use Rattle.rows.proofs.Alone.{rows-narrowed, no-words}
-use Rattle.laws.proofs.RowLaws.{InRow}
+use Rattle.laws.specs.Supported.{InRow}
 use Rattle.cat.specs.Splits.{Three, Supported}
 
 -- a string of each row, and the three meet the test

@@ -6,8 +6,7 @@ use lib.Bits.{bitAnd}
 use lib.ListN.{length}
 use Rattle.model.specs.Words.{word}
 use Rattle.model.specs.Solutions.{textBit}
-use Rattle.laws.proofs.RowLaws.{InRow}
-use Rattle.laws.proofs.Supports.{Supports}
+use Rattle.laws.specs.Supported.{InRow, Supports}
 
 -- a string for each of three rows
 pub record Three : Type 0 where

@@ -65,7 +65,7 @@ fn split(x: [u64; 64], y: [u64; 64], z: [u64; 64], p: usize) -> Rows
     if t[0] == 0 {
         return nothing();
     }
-    let begin = rows::window(t, words::single(p), 0, p);
+    let begin = rows::window(t, words::singleton(p), 0, p);
     let rest = rows::window(t, t[0] >> p, p, 63 - p);
     Rows {
         x: begin,

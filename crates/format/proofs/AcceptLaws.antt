@@ -12,7 +12,7 @@ use Rattle.model.specs.Reading.{automataIn, decode, pieces, Accepted, problemOf
 use Rattle.laws.proofs.ReplyLaws.{require-answered, obtain-answered, andThen-answered, answered-inj, refused≢answered}
 use Rattle.laws.proofs.CollectLaws.{collect-length}
 use Rattle.laws.proofs.ReadingLaws.{pieces-length}
-use Rattle.automata.proofs.WalkLaws.{automata-count}
+use Rattle.automata.proofs.AutomataWalkLaws.{automata-count}
 use Rattle.format.specs.Accepting.{accepted}
 
 -- ---- what an accepted file holds of its parts

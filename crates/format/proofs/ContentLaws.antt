@@ -11,7 +11,8 @@ use Rattle.model.specs.Layout.{Bytes, little}
 use Rattle.model.specs.Reading.{decode, pieces, reading}
 use Rattle.layout.specs.declared.Parts.{Parts}
 use Rattle.layout.specs.Replied.{partsOf, PartsFit}
-use Rattle.laws.proofs.ListLaws.{In, collect-in}
+use Rattle.laws.specs.Inclusion.{In}
+use Rattle.laws.proofs.ListLaws.{collect-in}
 use Rattle.laws.proofs.ReadingLaws.{take-bytes, decode-machine, Sound, problemOf-sound}
 use Rattle.format.specs.Accepting.{accepted, givenBy, contentOf, problemIn, tableIn, Usable}
 use Rattle.format.proofs.AcceptLaws.{Holds, problemOf-holds, Held, reading-held}

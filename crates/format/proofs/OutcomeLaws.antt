@@ -12,7 +12,7 @@ use Rattle.layout.specs.declared.Layout.{Layout}
 use Rattle.layout.specs.declared.Layout.the-variants.{Refused, Laid}
 use Rattle.layout.specs.Replied.{partsOf, replyOf, PartsFit, Fitted}
 use Rattle.format.specs.Accepting.{numberOf, accepted}
-use Rattle.format.proofs.RefusalLaws.{accepted-early, accepted-refused, accepted-laid}
+use Rattle.format.proofs.RefusalOrderLaws.{accepted-early, accepted-refused, accepted-laid}
 
 module _ (file : List ℕ) (l : Layout) (told : (replyOf file l ≡ layout file) × Fitted file l) where
   pub early : (n : ℕ) → l ≡ Refused n → (replyOf file (Refused n) ≡ accepted file) × Fitted file (Refused n)

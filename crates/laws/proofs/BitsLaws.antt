@@ -14,7 +14,8 @@ use lib.Dec.{eqb}
 use borrow.Author.Tests.{leb-true, leb-false, eq-eqb, ne-eqb}
 use Rattle.model.specs.Lists.{select, from, upto}
 use Rattle.model.specs.Words.{bit, bits, several}
-use Rattle.laws.proofs.ListLaws.{In, of-select, of-from, one-member}
+use Rattle.laws.specs.Inclusion.{Single, In}
+use Rattle.laws.proofs.ListLaws.{of-select, of-from, one-member}
 use Rattle.laws.proofs.WordLaws.{digit, bit-lowest, bit-suc, pow-only, of-bits, in-bits, bit-sub, and-yes}
 
 -- ---- the bits of a word go upwards
@@ -40,10 +41,6 @@ select-increasing p (x ∷ xs) h = go (p x) (select-increasing p xs (h .1))
 pub bits-increasing : (w : ℕ) → Increasing (bits w)
 unfolding bits upto
 bits-increasing w = select-increasing (bit w) (from 0 64) (from-increasing 0 64)
-
--- the word has at most one bit
-abbrev pub Single : ℕ → Type 0
-Single w = length (bits w) < 2
 
 pub single : (w b c : ℕ) → Single w → b < 64 → c < 64 → bit w b ≡ true → bit w c ≡ true → b ≡ c
 single w b c h k l p q = one-member (bits w) b c h (in-bits w b p k) (in-bits w c q l)

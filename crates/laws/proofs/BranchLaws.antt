@@ -1,4 +1,4 @@
--- Laws of the branch of a node: the paper's rule by variables is "the first word with several bits", and of two choices that part there the lower comes
+-- Laws of the branch of a node: the paper's rule by variables is the first word with several bits, and of two choices that part there the lower comes
 -- first. Assumes nothing.
 use mathlib.Core.Path.{_≡_, refl, sym, ap, ap₂, subst, _∙_}
 use mathlib.Core.Logic.{_⊎_, inl, inr, ⊎-elim}
@@ -16,15 +16,17 @@ use Rattle.model.specs.Domains.{Variable, str, num, row, stringsOf, valuesOf}
 use Rattle.model.specs.Constraints.{Choice, Problem, width}
 use Rattle.model.specs.Solutions.{Fits, textBit, used, InRange, WellFormed}
 use Rattle.model.specs.Order.{TextBefore, Before}
-use Rattle.model.specs.Rounds.{variablesOf, valueCount, alive}
+use Rattle.model.specs.Rounds.{variablesOf, valueCount, everyValue}
 use Rattle.model.specs.Tree.{solved, wordsOf, branchVariable, branchWord, branch, restricted, children}
+use Rattle.laws.specs.Inclusion.{Single}
+use Rattle.laws.specs.Lent.{Stable}
+use Rattle.laws.specs.Traversal.{At}
 use Rattle.laws.proofs.ListLaws.{of-any, in-any, of-from, in-from, one-member, some-member, from-append, flatMap-append, flatMap-map, find-same, find-flatMap, find-from}
 use Rattle.laws.proofs.WordLaws.{pow-self, pow-inj, of-bits}
-use Rattle.laws.proofs.BitsLaws.{Single, several-true, several-false, two-bits}
+use Rattle.laws.proofs.BitsLaws.{several-true, several-false, two-bits}
 use Rattle.laws.proofs.RowLaws.{same-lengths, same-symbols, same-strings, symbol-pow, symbol-inside}
 use Rattle.laws.proofs.DomainLaws.{row-length, row-single, by-word, used-text, used-value}
-use Rattle.laws.proofs.RoundLaws.{Stable}
-use Rattle.laws.proofs.NodeLaws.{tidy, text-few, text-several, value-few, of-variables, solved-single, count-solved, alive-count}
+use Rattle.laws.proofs.NodeLaws.{tidy, text-few, text-several, value-few, of-variables, solved-single, count-solved, every-value-count}
 
 -- ---- the words of the variables, in order, are the words of the table
 
@@ -52,12 +54,6 @@ variables-words P =
     ∙ from-append (64 * 0) (64 * s) t
 
 -- ---- where a node branches
-
--- k is the first word with several bits
-pub record At (S : List ℕ) (k : ℕ) : Type 0 where
-  pub two : 2 ≤ length (bits (word S k))
-  pub inside : k < length S
-  pub before : (j : ℕ) → j < k → Single (word S j)
 
 or-no : (a : Bool) → (a || false) ≡ a
 or-no true = refl
@@ -98,21 +94,21 @@ module _ (P : Problem) (wf : WellFormed P) (S : List ℕ) (bd : Words S) (ln : l
       ∙ sym (find-flatMap (λ i. several (word S i)) (wordsOf P) (variablesOf P))
       ∙ ap (find (λ i. several (word S i))) (variables-words P)
 
-  pub branch-cases : ((branch P S ≡ none) × ((i : ℕ) → i < width P → Single (word S i))) ⊎ ((k : ℕ) × (branch P S ≡ some k) × At S k)
+  pub branch-cases : ((branch P S ≡ none) × ((i : ℕ) → i < width P → Single (word S i))) ⊎ ((at : ℕ) × (branch P S ≡ some at) × At S at)
   unfolding upto
   branch-cases = ⊎-elim
       (λ r. inl (branch-word ∙ r .0, λ i h. several-false (word S i) (r .1 i (omega arith) (omega arith))))
-      (λ r. inr (r .0, branch-word ∙ r .1, at (r .0) (r .3) (r .4) (r .5)))
+      (λ r. inr (r .0, branch-word ∙ r .1, branching (r .0) (r .3) (r .4) (r .5)))
       (find-from (λ i. several (word S i)) 0 (width P))
     where
-      at : (k : ℕ) → k < 0 + width P → several (word S k) ≡ true → ((j : ℕ) → 0 ≤ j → j < k → several (word S j) ≡ false) → At S k
-      at k l q f = record { two = several-true (word S k) q; inside = omega arith; before = λ j h. several-false (word S j) (f j (omega arith) h) }
+      branching : (at : ℕ) → at < 0 + width P → several (word S at) ≡ true → ((j : ℕ) → 0 ≤ j → j < at → several (word S j) ≡ false) → At S at
+      branching at l q f = record { two = several-true (word S at) q; inside = omega arith; before = λ j h. several-false (word S j) (f j (omega arith) h) }
 
   -- there is only one first word
-  pub branch-at : (k : ℕ) → At S k → branch P S ≡ some k
-  branch-at k a = ⊎-elim
-      (λ r. let i = a .inside in let z = r .1 k (omega arith) in let t = a .two in absurd (omega arith))
-      (λ r. let l = up-to (r .0) k (r .2) a in let m = up-to k (r .0) a (r .2) in let e : r .0 ≡ k = omega arith in r .1 ∙ ap some e)
+  pub branch-at : (at : ℕ) → At S at → branch P S ≡ some at
+  branch-at at a = ⊎-elim
+      (λ r. let i = a .inside in let z = r .1 at (omega arith) in let t = a .two in absurd (omega arith))
+      (λ r. let l = up-to (r .0) at (r .2) a in let m = up-to at (r .0) a (r .2) in let e : r .0 ≡ at = omega arith in r .1 ∙ ap some e)
       branch-cases
     where
       up-to : (m n : ℕ) → At S m → At S n → m ≤ n
@@ -124,51 +120,51 @@ module _ (P : Problem) (wf : WellFormed P) (S : List ℕ) (bd : Words S) (ln : l
 
   -- ---- the children of a node
 
-  pub children-dead : alive P S ≡ false → children P S ≡ []
+  pub children-dead : everyValue P S ≡ false → children P S ≡ []
   unfolding children
   children-dead l = rw l
 
   pub children-none : branch P S ≡ none → children P S ≡ []
   unfolding children Option·elim
-  children-none e = go (alive P S)
+  children-none e = go (everyValue P S)
     where
       go : (t : Bool) → cond t (Option·elim (branch P S) [] (restricted S)) [] ≡ []
       go true = ap (λ (o : Option ℕ). Option·elim o [] (restricted S)) e
       go false = refl
 
-  pub children-at : (k : ℕ) → branch P S ≡ some k → alive P S ≡ true → children P S ≡ map (λ b. set S k (2 ^ b)) (bits (word S k))
+  pub children-at : (at : ℕ) → branch P S ≡ some at → everyValue P S ≡ true → children P S ≡ map (λ b. set S at (2 ^ b)) (bits (word S at))
   unfolding children restricted Option·elim
-  children-at k e l = rw (l, e)
+  children-at at e l = rw (l, e)
 
   -- ---- what code tests: no word with several bits, or the first of them
 
-  pub single-solved : alive P S ≡ true → ((i : ℕ) → i < width P → Single (word S i)) → solved P S ≡ true
+  pub single-solved : everyValue P S ≡ true → ((i : ℕ) → i < width P → Single (word S i)) → solved P S ≡ true
   unfolding valueCount
-  single-solved l h = count-solved P S (elim [ str x ↦ λ k. text x k | num n ↦ λ k. value n k ])
+  single-solved l h = count-solved P S (elim [ str x ↦ λ at. text x at | num n ↦ λ at. value n at ])
     where
       text : (x : ℕ) → x < P .strings → length (stringsOf S x) ≡ 1
-      text x k = let a = alive-count P S l (str x) k in let b = text-few P wf S bd ln st x k (λ j m. h (64 * x + j) (omega arith)) in omega arith
+      text x at = let a = every-value-count P S l (str x) at in let b = text-few P wf S bd ln st x at (λ j m. h (64 * x + j) (omega arith)) in omega arith
 
       value : (n : ℕ) → n < P .numbers → length (valuesOf (P .strings) S n) ≡ 1
-      value n k = let a = alive-count P S l (num n) k in let b = value-few P wf S bd ln st n (h (64 * P .strings + n) (omega arith)) in omega arith
+      value n at = let a = every-value-count P S l (num n) at in let b = value-few P wf S bd ln st n (h (64 * P .strings + n) (omega arith)) in omega arith
 
-  pub several-unsolved : (k : ℕ) → k < width P → 2 ≤ length (bits (word S k)) → solved P S ≡ false
-  several-unsolved k h l = go (solved P S) refl
+  pub several-unsolved : (at : ℕ) → at < width P → 2 ≤ length (bits (word S at)) → solved P S ≡ false
+  several-unsolved at h l = go (solved P S) refl
     where
       go : (t : Bool) → solved P S ≡ t → solved P S ≡ false
-      go true e = let z = solved-single P wf S bd ln st e k h in absurd (omega arith)
+      go true e = let z = solved-single P wf S bd ln st e at h in absurd (omega arith)
       go false e = e
 
-  -- ---- two choices at the branch
+  -- ---- two choices branching the branch
 
-  row-before : (k y : ℕ) → ((j : ℕ) → j < k → Single (word S j)) → 64 * y + 63 < k → y < P .strings → (j : ℕ) → j < length (row S y) → Single (word (row S y) j)
-  row-before k y bf h hy j l = let e = row-length S y (omega arith) in row-single S y j (omega arith) (bf (64 * y + j) (omega arith))
+  row-before : (at y : ℕ) → ((j : ℕ) → j < at → Single (word S j)) → 64 * y + 63 < at → y < P .strings → (j : ℕ) → j < length (row S y) → Single (word (row S y) j)
+  row-before at y bf h hy j l = let e = row-length S y (omega arith) in row-single S y j (omega arith) (bf (64 * y + j) (omega arith))
 
   -- a choice that fits has one bit in the branch word
-  pub used-one : (α : Choice) → Fits P S α → (k : ℕ) → At S k → k < width P → (c : ℕ) × (used (P .strings) α k ≡ 2 ^ c)
+  pub used-one : (α : Choice) → Fits P S α → (at : ℕ) → At S at → at < width P → (c : ℕ) × (used (P .strings) α at ≡ 2 ^ c)
   unfolding textBit
-  used-one α f = by-word (P .strings) (λ k. At S k → k < width P → (c : ℕ) × (used (P .strings) α k ≡ 2 ^ c))
-      (λ x j h k a l. let r = place x j h k a in (r .0, used-text (P .strings) α x j h k ∙ r .1))
+  used-one α f = by-word (P .strings) (λ at. At S at → at < width P → (c : ℕ) × (used (P .strings) α at ≡ 2 ^ c))
+      (λ x j h at a l. let r = place x j h at a in (r .0, used-text (P .strings) α x j h at ∙ r .1))
       (λ n a l. (α .value n, used-value (P .strings) α n))
     where
       place : (x j : ℕ) → x < P .strings → j < 64 → At S (64 * x + j) → (c : ℕ) × (textBit (α .text x) j ≡ 2 ^ c)
@@ -181,10 +177,10 @@ module _ (P : Problem) (wf : WellFormed P) (S : List ℕ) (bd : Words S) (ln : l
           (getD (α .text x) j 0, symbol-pow (α .text x) j (omega arith))
 
   -- of two choices that fit, the one with the lower bit there comes first
-  pub lower-first : (α β : Choice) → Fits P S α → Fits P S β → (k : ℕ) → At S k → k < width P → (b c : ℕ) → used (P .strings) α k ≡ 2 ^ b → used (P .strings) β k ≡ 2 ^ c → b < c → Before P α β
+  pub lower-first : (α β : Choice) → Fits P S α → Fits P S β → (at : ℕ) → At S at → at < width P → (b c : ℕ) → used (P .strings) α at ≡ 2 ^ b → used (P .strings) β at ≡ 2 ^ c → b < c → Before P α β
   unfolding Before TextBefore textBit valuesOf
   lower-first α β f g = by-word (P .strings)
-      (λ k. At S k → k < width P → (b c : ℕ) → used (P .strings) α k ≡ 2 ^ b → used (P .strings) β k ≡ 2 ^ c → b < c → Before P α β)
+      (λ at. At S at → at < width P → (b c : ℕ) → used (P .strings) α at ≡ 2 ^ b → used (P .strings) β at ≡ 2 ^ c → b < c → Before P α β)
       (λ x j hx hj a l b c p q lt. inl (
         x,
         hx,
@@ -196,11 +192,11 @@ module _ (P : Problem) (wf : WellFormed P) (S : List ℕ) (bd : Words S) (ln : l
       let vβ = pow-inj (β .value n) c (sym (used-value (P .strings) β n) ∙ q) in
       inr (n, omega arith, (λ y h. texts-before (64 * P .strings + n) a y h (omega arith)), (λ m h. values-before (64 * P .strings + n) a m (omega arith) (omega arith)), omega arith))
     where
-      texts-before : (k : ℕ) → At S k → (y : ℕ) → y < P .strings → 64 * y + 63 < k → α .text y ≡ β .text y
-      texts-before k a y h m = same-strings (row S y) (α .text y) (β .text y) (f .texts-in y h) (g .texts-in y h) (row-before k y (a .before) m h)
+      texts-before : (at : ℕ) → At S at → (y : ℕ) → y < P .strings → 64 * y + 63 < at → α .text y ≡ β .text y
+      texts-before at a y h m = same-strings (row S y) (α .text y) (β .text y) (f .texts-in y h) (g .texts-in y h) (row-before at y (a .before) m h)
 
-      values-before : (k : ℕ) → At S k → (m : ℕ) → m < P .numbers → 64 * P .strings + m < k → α .value m ≡ β .value m
-      values-before k a m h r = one-member (valuesOf (P .strings) S m) (α .value m) (β .value m) (a .before (64 * P .strings + m) r) (f .values-in m h) (g .values-in m h)
+      values-before : (at : ℕ) → At S at → (m : ℕ) → m < P .numbers → 64 * P .strings + m < at → α .value m ≡ β .value m
+      values-before at a m h r = one-member (valuesOf (P .strings) S m) (α .value m) (β .value m) (a .before (64 * P .strings + m) r) (f .values-in m h) (g .values-in m h)
 
       place : (x j : ℕ) → x < P .strings → j < 64 → At S (64 * x + j) → (b c : ℕ) → textBit (α .text x) j ≡ 2 ^ b → textBit (β .text x) j ≡ 2 ^ c → b < c → TextBefore (α .text x) (β .text x)
       place x zero hx hj a b c eα eβ lt =

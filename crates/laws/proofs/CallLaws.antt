@@ -12,16 +12,18 @@ use Rattle.model.specs.Lists.{from, upto}
 use Rattle.model.specs.Words.{noneFrom, word, Words}
 use Rattle.model.specs.Constraints.{Problem, Constraint, always, width}
 use Rattle.model.specs.Support.{narrowed, struck}
-use Rattle.model.specs.Rounds.{alive, steps, settling, settled}
+use Rattle.model.specs.Rounds.{everyValue, steps, settling, settled}
 use Rattle.model.specs.Replies.{Reply, refused, answered, require, andThen, leaves}
 use Rattle.model.specs.Reading.{Accepted, symbolsBelow}
 use Rattle.model.specs.Operations.{requireLength, onTable, stepAt, stepCount, Stepped, step, Settlement, settle}
 use Rattle.model.specs.Claim.{Call, stepCall, settleCall, call, calls, NoStepStrikes}
-use Rattle.laws.proofs.ListLaws.{In, of-all, in-all, of-upto, in-upto, getD-in, in-getD, and-true, true-and}
+use Rattle.laws.specs.Inclusion.{In, Below}
+use Rattle.laws.specs.Lent.{lendable, unlendable, Stable}
+use Rattle.laws.proofs.ListLaws.{of-all, in-all, of-upto, in-upto, getD-in, in-getD, and-true, true-and}
 use Rattle.laws.proofs.WordLaws.{noneFrom-within}
-use Rattle.laws.proofs.TableLaws.{Below, below-refl, below-trans, below-antisym, below-of-eq}
+use Rattle.laws.proofs.TableLaws.{below-refl, below-trans, below-antisym, below-of-eq}
 use Rattle.laws.proofs.SupportLaws.{narrowed-below, narrowed-mono}
-use Rattle.laws.proofs.RoundLaws.{Stable, settled-below, settled-above, settled-stable}
+use Rattle.laws.proofs.RoundLaws.{settled-below, settled-above, settled-stable}
 
 -- ---- the steps, by their numbers
 
@@ -60,13 +62,6 @@ module _ (P : Problem) where
           (t .0, omega arith, rw e (t .2))
 
 -- ---- a lent table: neither refusal 9 nor refusal 10
-
-unfoldable pub lendable : Problem → List ℕ → Bool
-lendable P T = eqb (length T) (width P) && symbolsBelow (P .symbols) (P .strings) T
-
--- the refusal of any other
-unfoldable pub unlendable : Problem → List ℕ → ℕ
-unlendable P T = cond (eqb (length T) (width P)) 10 9
 
 pub lendable-length : (P : Problem) (T : List ℕ) → lendable P T ≡ true → length T ≡ width P
 unfolding lendable
@@ -113,7 +108,7 @@ module _ (a : Accepted) where
   step-lendable T j e h = on-lendable a T _ e ∙ rw (lt-ltb j (stepCount (a .problem)) h)
 
   pub settle-lendable : (T : List ℕ) → lendable (a .problem) T ≡ true
-      → settle (answered a) T ≡ answered (record { rounds = settling (a .problem) T .rounds; everyValue = alive (a .problem) (settled (a .problem) T); table = settled (a .problem) T })
+      → settle (answered a) T ≡ answered (record { rounds = settling (a .problem) T .rounds; everyValue = everyValue (a .problem) (settled (a .problem) T); table = settled (a .problem) T })
   unfolding settle
   settle-lendable T e = on-lendable a T _ e
 

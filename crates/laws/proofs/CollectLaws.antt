@@ -7,7 +7,8 @@ use Prim.Native.Nat.{ℕ, zero, suc, _<_}
 use native.Mathlib.Omega.{arith}
 use lib.ListN.{length, getD}
 use Rattle.model.specs.Lists.{any, collect}
-use Rattle.laws.proofs.ListLaws.{In, in-any, bind-some}
+use Rattle.laws.specs.Inclusion.{In}
+use Rattle.laws.proofs.ListLaws.{in-any, bind-some}
 
 module _ {A : Type 0} (p : A → Bool) where
   -- a test that no element passes is false of each, and the other way

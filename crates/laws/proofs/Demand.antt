@@ -12,9 +12,10 @@ use Rattle.model.specs.Layout.{Bytes}
 use Rattle.model.specs.Reading.{Accepted, Reading, reading}
 use Rattle.model.specs.Operations.{onTable, step, Settlement, settle, Searched, search}
 use Rattle.model.specs.Claim.{Call, ListClaim, SearchClaim, Demand}
+use Rattle.laws.specs.Lent.{lendable}
 use Rattle.laws.proofs.SolutionLaws.{tableOf-word, own-below, own-stable}
-use Rattle.laws.proofs.SearchLaws.{search-first, search-empty, search-near, search-whole, search-nothing}
-use Rattle.laws.proofs.CallLaws.{lendable, lendable-length, settle-lendable, settle-other, step-other, calls-above, calls-settle, calls-other, calls-refused}
+use Rattle.laws.proofs.BudgetLaws.{search-first, search-empty, search-near, search-whole, search-nothing}
+use Rattle.laws.proofs.CallLaws.{lendable-length, settle-lendable, settle-other, step-other, calls-above, calls-settle, calls-other, calls-refused}
 use Rattle.laws.proofs.ReadingLaws.{Sound, reading-sound}
 use Rattle.laws.proofs.ReplyLaws.{refused≢answered, require-answered, answered-inj}
 

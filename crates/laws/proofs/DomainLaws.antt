@@ -14,10 +14,10 @@ use Rattle.model.specs.Domains.{Variable, str, num, sameVariable, row, stringsO
 use Rattle.model.specs.Constraints.{Choice}
 use Rattle.model.specs.Solutions.{textBit, used}
 use Rattle.model.specs.Support.{withText, withValue, blank, choices}
-use Rattle.laws.proofs.ListLaws.{In, Sub, of-flatMap, in-flatMap}
-use Rattle.laws.proofs.WordLaws.{Within, zero-bit, pow-within, of-bits, bits-sub}
-use Rattle.laws.proofs.BitsLaws.{Single, pow-single}
-use Rattle.laws.proofs.TableLaws.{Below}
+use Rattle.laws.specs.Inclusion.{In, Within, Single, Below}
+use Rattle.laws.proofs.ListLaws.{Sub, of-flatMap, in-flatMap}
+use Rattle.laws.proofs.WordLaws.{zero-bit, pow-within, of-bits, bits-sub}
+use Rattle.laws.proofs.BitsLaws.{pow-single}
 use Rattle.laws.proofs.RowLaws.{of-strings, in-strings, strings-sub, used-within, within-used, text-single}
 
 -- ---- a row in its table

@@ -1,8 +1,8 @@
 -- The laws about the definitions, each module after those it cites: lists and words; a row, a table and its domains; one narrowing step; rounds; solutions;
--- the search tree; the file; demand 3. `PartLaws`, `Supports`, `NeqLaws`, `LoopLaws` and `StackLaws` are for the code above: parts of a lent slice, a
+-- the search tree; the file; demand 3. `SliceLaws`, `Supports`, `NeqLaws`, `LoopLaws` and `StackLaws` are for the code above: parts of a lent slice, a
 -- step's parts, Neq's step, the search's loop and its invariant.
 pub mod ListLaws
-pub mod PartLaws
+pub mod SliceLaws
 pub mod CollectLaws
 pub mod WordLaws
 pub mod BitsLaws
@@ -21,7 +21,7 @@ pub mod ChildLaws
 pub mod NodeLaws
 pub mod BranchLaws
 pub mod TreeLaws
-pub mod SearchLaws
+pub mod BudgetLaws
 pub mod LoopLaws
 pub mod ReplyLaws
 pub mod CallLaws

@@ -16,7 +16,8 @@ use Rattle.model.specs.Domains.{Variable, str, stringsOf}
 use Rattle.model.specs.Constraints.{Choice, Problem, Constraint, always, neq, differ, variables, meets}
 use Rattle.model.specs.Solutions.{textBit}
 use Rattle.model.specs.Support.{narrowed}
-use Rattle.laws.proofs.ListLaws.{In, of-any, in-any, in-upto}
+use Rattle.laws.specs.Inclusion.{In}
+use Rattle.laws.proofs.ListLaws.{of-any, in-any, in-upto}
 use Rattle.laws.proofs.DomainLaws.{InDomain, used-text}
 use Rattle.laws.proofs.SupportLaws.{Supporting, stays, stays-only, touched-text}
 

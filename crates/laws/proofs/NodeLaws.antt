@@ -15,16 +15,16 @@ use Rattle.model.specs.Constraints.{Choice, Problem, Constraint, always, eq, ne
 use Rattle.model.specs.Solutions.{Fits, Solution, textBit, used, tableOf, InRange, WellFormed}
 use Rattle.model.specs.Order.{Same}
 use Rattle.model.specs.Support.{narrowed}
-use Rattle.model.specs.Rounds.{variablesOf, valueCount, alive, steps}
+use Rattle.model.specs.Rounds.{variablesOf, valueCount, everyValue, steps}
 use Rattle.model.specs.Tree.{solved}
-use Rattle.laws.proofs.ListLaws.{In, of-all, in-all, in-length, in-upto, of-upto, getD-in, one-member}
-use Rattle.laws.proofs.WordLaws.{Within, pow-bit, of-bits, in-bits}
-use Rattle.laws.proofs.BitsLaws.{Single}
+use Rattle.laws.specs.Inclusion.{In, Within, Single}
+use Rattle.laws.specs.Lent.{Stable}
+use Rattle.laws.proofs.ListLaws.{of-all, in-all, in-length, in-upto, of-upto, getD-in, one-member}
+use Rattle.laws.proofs.WordLaws.{pow-bit, of-bits, in-bits}
 use Rattle.laws.proofs.TableLaws.{below-of, below-antisym}
 use Rattle.laws.proofs.RowLaws.{strings-few, length-used, used-once}
 use Rattle.laws.proofs.DomainLaws.{row-length, row-single, by-word, used-text, used-value, used-single, InDomain, SameAt, text-within}
 use Rattle.laws.proofs.SupportLaws.{meets-agree, stays-only, touched-text}
-use Rattle.laws.proofs.RoundLaws.{Stable}
 use Rattle.laws.proofs.SolutionLaws.{tableOf-length, tableOf-word, own-below}
 
 -- every constraint has a string
@@ -55,45 +55,45 @@ of-variables P v m = ⊎-elim
 
 module _ (P : Problem) (S : List ℕ) where
   -- every variable has a value, by its number of values and by a value
-  pub alive-count : alive P S ≡ true → (v : Variable) → InRange P v → 1 ≤ valueCount P S v
-  unfolding alive
-  alive-count e v h = leb-true 1 (valueCount P S v) (of-all (λ v. leb 1 (valueCount P S v)) e (in-variables P v h))
+  pub every-value-count : everyValue P S ≡ true → (v : Variable) → InRange P v → 1 ≤ valueCount P S v
+  unfolding everyValue
+  every-value-count e v h = leb-true 1 (valueCount P S v) (of-all (λ v. leb 1 (valueCount P S v)) e (in-variables P v h))
 
   pub solved-count : solved P S ≡ true → (v : Variable) → InRange P v → valueCount P S v ≡ 1
   unfolding solved
   solved-count e v h = eqb-true (valueCount P S v) 1 (of-all (λ v. eqb (valueCount P S v) 1) e (in-variables P v h))
 
-  pub count-alive : ((v : Variable) → InRange P v → 1 ≤ valueCount P S v) → alive P S ≡ true
-  unfolding alive
-  count-alive f = in-all (λ v. leb 1 (valueCount P S v)) (variablesOf P) (λ v m. le-leb 1 (valueCount P S v) (f v (of-variables P v m)))
+  pub count-every-value : ((v : Variable) → InRange P v → 1 ≤ valueCount P S v) → everyValue P S ≡ true
+  unfolding everyValue
+  count-every-value f = in-all (λ v. leb 1 (valueCount P S v)) (variablesOf P) (λ v m. le-leb 1 (valueCount P S v) (f v (of-variables P v m)))
 
   pub count-solved : ((v : Variable) → InRange P v → valueCount P S v ≡ 1) → solved P S ≡ true
   unfolding solved
   count-solved f = in-all (λ v. eqb (valueCount P S v) 1) (variablesOf P) (λ v m. eq-eqb (valueCount P S v) 1 (f v (of-variables P v m)))
 
-  pub fits-alive : (α : Choice) → Fits P S α → alive P S ≡ true
+  pub fits-every-value : (α : Choice) → Fits P S α → everyValue P S ≡ true
   unfolding valueCount
-  fits-alive α f = count-alive (elim [ str x ↦ λ h. in-length (f .texts-in x h) | num n ↦ λ h. in-length (f .values-in n h) ])
+  fits-every-value α f = count-every-value (elim [ str x ↦ λ h. in-length (f .texts-in x h) | num n ↦ λ h. in-length (f .values-in n h) ])
 
   -- the first value of each variable
   abbrev pub firsts : Choice
   firsts = record { text = λ x. getD (stringsOf S x) 0 []; value = λ n. getD (valuesOf (P .strings) S n) 0 0 }
 
-  pub alive-fits : alive P S ≡ true → Fits P S firsts
+  pub every-value-fits : everyValue P S ≡ true → Fits P S firsts
   unfolding valueCount
-  alive-fits e = record {
-    texts-in = λ x h. getD-in (stringsOf S x) 0 [] (alive-count e (str x) h);
-    values-in = λ n h. getD-in (valuesOf (P .strings) S n) 0 0 (alive-count e (num n) h);
+  every-value-fits e = record {
+    texts-in = λ x h. getD-in (stringsOf S x) 0 [] (every-value-count e (str x) h);
+    values-in = λ n h. getD-in (valuesOf (P .strings) S n) 0 0 (every-value-count e (num n) h);
   }
 
-  pub solved-alive : solved P S ≡ true → alive P S ≡ true
-  solved-alive e = count-alive (λ v h. let k = solved-count e v h in omega arith)
+  pub solved-every-value : solved P S ≡ true → everyValue P S ≡ true
+  solved-every-value e = count-every-value (λ v h. let k = solved-count e v h in omega arith)
 
-  pub dead-unsolved : alive P S ≡ false → solved P S ≡ false
+  pub dead-unsolved : everyValue P S ≡ false → solved P S ≡ false
   dead-unsolved l = go (solved P S) refl
     where
       go : (t : Bool) → solved P S ≡ t → solved P S ≡ false
-      go true e = absurd (false≢true (sym l ∙ solved-alive e))
+      go true e = absurd (false≢true (sym l ∙ solved-every-value e))
       go false e = e
 
 -- ---- a table on which no step strikes
@@ -125,7 +125,7 @@ module _ (P : Problem) (wf : WellFormed P) (S : List ℕ) (bd : Words S) (ln : l
     one-value n h = let e = solved-count P S sv (num n) h in omega arith
 
     pub solved-fits : Fits P S (firsts P S)
-    solved-fits = alive-fits P S (solved-alive P S sv)
+    solved-fits = every-value-fits P S (solved-every-value P S sv)
 
     pub solved-same : (β : Choice) → Fits P S β → Same P (firsts P S) β
     solved-same β f = record {
@@ -201,9 +201,9 @@ module _ (P : Problem) (wf : WellFormed P) (S : List ℕ) (bd : Words S) (ln : l
           absurd (omega arith)
 
   -- every variable has a value just where no length word and no number word is 0
-  pub words-alive : ((x : ℕ) → x < P .strings → (b : ℕ) × (bit (word S (64 * x)) b ≡ true)) → ((n : ℕ) → n < P .numbers → (b : ℕ) × (bit (word S (64 * P .strings + n)) b ≡ true)) → alive P S ≡ true
+  pub words-every-value : ((x : ℕ) → x < P .strings → (b : ℕ) × (bit (word S (64 * x)) b ≡ true)) → ((n : ℕ) → n < P .numbers → (b : ℕ) × (bit (word S (64 * P .strings + n)) b ≡ true)) → everyValue P S ≡ true
   unfolding valueCount
-  words-alive f g = count-alive P S (elim [ str x ↦ λ h. text x h | num n ↦ λ h. let t = g n h in in-length (value-in n (t .0) (t .1)) ])
+  words-every-value f g = count-every-value P S (elim [ str x ↦ λ h. text x h | num n ↦ λ h. let t = g n h in in-length (value-in n (t .0) (t .1)) ])
     where
       text : (x : ℕ) → x < P .strings → 1 ≤ length (stringsOf S x)
       text x h =
@@ -212,12 +212,12 @@ module _ (P : Problem) (wf : WellFormed P) (S : List ℕ) (bd : Words S) (ln : l
           let u = tidy x h 0 (omega arith) (t .0) (subst (λ (y : ℕ). bit (word S y) (t .0) ≡ true) q (t .1)) in
           in-length (u .1)
 
-  pub alive-lengths : alive P S ≡ true → (x : ℕ) → x < P .strings → (b : ℕ) × (bit (word S (64 * x)) b ≡ true)
-  alive-lengths e x h =
+  pub every-value-lengths : everyValue P S ≡ true → (x : ℕ) → x < P .strings → (b : ℕ) × (bit (word S (64 * x)) b ≡ true)
+  every-value-lengths e x h =
       let w : List ℕ = firsts P S .text x in
       let q : 64 * x + 0 ≡ 64 * x = omega arith in
-      (length w, subst (λ (y : ℕ). bit (word S y) (length w) ≡ true) q (text-within S x w (alive-fits P S e .texts-in x h) 0 (omega arith) (length w) (length-used w)))
+      (length w, subst (λ (y : ℕ). bit (word S y) (length w) ≡ true) q (text-within S x w (every-value-fits P S e .texts-in x h) 0 (omega arith) (length w) (length-used w)))
 
-  pub alive-numbers : alive P S ≡ true → (n : ℕ) → n < P .numbers → (b : ℕ) × (bit (word S (64 * P .strings + n)) b ≡ true)
+  pub every-value-numbers : everyValue P S ≡ true → (n : ℕ) → n < P .numbers → (b : ℕ) × (bit (word S (64 * P .strings + n)) b ≡ true)
   unfolding valuesOf
-  alive-numbers e n h = (firsts P S .value n, of-bits _ (alive-fits P S e .values-in n h) .0)
+  every-value-numbers e n h = (firsts P S .value n, of-bits _ (every-value-fits P S e .values-in n h) .0)

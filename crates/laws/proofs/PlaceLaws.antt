@@ -11,10 +11,10 @@ use Rattle.model.specs.Domains.{Variable, str, num, row}
 use Rattle.model.specs.Constraints.{Choice, Problem, Constraint, width, variables}
 use Rattle.model.specs.Solutions.{textBit, used}
 use Rattle.model.specs.Support.{touches, narrowed}
-use Rattle.laws.proofs.ListLaws.{In}
+use Rattle.laws.specs.Inclusion.{In}
+use Rattle.laws.specs.Supported.{Supports}
 use Rattle.laws.proofs.DomainLaws.{row-word, owner-text, owner-value, by-word, used-text, used-value}
 use Rattle.laws.proofs.SupportLaws.{Supporting, touched, is-narrowed}
-use Rattle.laws.proofs.Supports.{Supports}
 
 module _ (P : Problem) (c : Constraint) (T U : List ℕ) (ln : length T ≡ width P) (same : length U ≡ length T)
     (texts : (x : ℕ) → x < P .strings → In (str x) (variables c) → Supports (Supporting P c T) (λ α. textBit (α .text x)) 64 (row U x))

@@ -17,11 +17,12 @@ use Rattle.model.specs.Solutions.{InRange, WellFormed}
 use Rattle.model.specs.Replies.{answered}
 use Rattle.model.specs.Layout.{Bytes, little, part, Parts, trailer, tableWords, layout}
 use Rattle.model.specs.Reading.{pieces, string, number, names, Kind, kinds, kindOf, decode, repeats, Accepted, problemOf, reading}
-use Rattle.laws.proofs.ListLaws.{In, given-some, bind-some, collect-in, and-true, true-and}
+use Rattle.laws.specs.Inclusion.{In}
+use Rattle.laws.specs.Lent.{lendable}
+use Rattle.laws.proofs.ListLaws.{given-some, bind-some, collect-in, and-true, true-and}
 use Rattle.laws.proofs.CollectLaws.{any-false}
 use Rattle.laws.proofs.WordLaws.{bit-high}
 use Rattle.laws.proofs.ReplyLaws.{require-answered, obtain-answered, andThen-answered, answered-inj}
-use Rattle.laws.proofs.CallLaws.{lendable}
 
 -- ---- numbers made of bytes
 

@@ -11,10 +11,11 @@ use Rattle.model.specs.Domains.{Variable, str, num, row, strings, stringsOf, va
 use Rattle.model.specs.Constraints.{Choice, Problem, Constraint, width, variables, meets}
 use Rattle.model.specs.Solutions.{InRange, textBit}
 use Rattle.model.specs.Support.{touches, narrowed}
-use Rattle.laws.proofs.ListLaws.{In}
+use Rattle.laws.specs.Inclusion.{In}
+use Rattle.laws.specs.Supported.{Supports}
 use Rattle.laws.proofs.DomainLaws.{InDomain, Agree, str≢num}
 use Rattle.laws.proofs.SupportLaws.{Supporting, meets-agree}
-use Rattle.laws.proofs.Supports.{Supports, moved-support, text-support, value-support}
+use Rattle.laws.proofs.Supports.{moved-support, text-support, value-support}
 use Rattle.laws.proofs.PlaceLaws.{narrowed-rows}
 
 -- where the strings and the numbers of the small table stand in the large one, and back

@@ -8,17 +8,10 @@ use Rattle.model.specs.Words.{Words, size}
 use Rattle.model.specs.Constraints.{Problem, Constraint}
 use Rattle.model.specs.Support.{narrowed, struck}
 use Rattle.model.specs.Rounds.{steps, run, round, Settled, after, settlingIn, settling, settled}
-use Rattle.laws.proofs.ListLaws.{In}
-use Rattle.laws.proofs.TableLaws.{Below, below-refl, below-trans, below-antisym, below-of-eq, below-words, struck-size, struck-none}
+use Rattle.laws.specs.Inclusion.{In, Below}
+use Rattle.laws.specs.Lent.{Fixed, Stable}
+use Rattle.laws.proofs.TableLaws.{below-refl, below-trans, below-antisym, below-of-eq, below-words, struck-size, struck-none}
 use Rattle.laws.proofs.SupportLaws.{narrowed-below, narrowed-mono}
-
--- none of these constraints strikes anything
-abbrev pub Fixed : Problem → List Constraint → List ℕ → Type 0
-Fixed P cs T = (c : Constraint) → In c cs → narrowed P c T ≡ T
-
--- no step of the problem strikes anything
-abbrev pub Stable : Problem → List ℕ → Type 0
-Stable P T = Fixed P (steps P) T
 
 module _ (P : Problem) where
   pub run-below : (cs : List Constraint) (T : List ℕ) → Below (run P cs T) T

@@ -11,14 +11,11 @@ use borrow.Author.Tests.{leb-true, le-leb}
 use Rattle.model.specs.Words.{bit, bits, noneFrom, word, Words}
 use Rattle.model.specs.Domains.{texts, strings}
 use Rattle.model.specs.Solutions.{textBit}
-use Rattle.laws.proofs.ListLaws.{In, Sub, of-flatMap, in-flatMap, flatMap-small}
-use Rattle.laws.proofs.WordLaws.{Within, zero-bit, pow-self, pow-only, pow-within, zero-within, of-bits, in-bits, noneFrom-bits}
-use Rattle.laws.proofs.BitsLaws.{Single, single, single-of}
-
--- the row allows the string: its length, and each of its symbols at its place
-pub record InRow (r w : List ℕ) : Type 0 where
-  pub length-bit : bit (word r 0) (length w) ≡ true
-  pub symbol-bits : (j : ℕ) → j < length w → bit (word r (suc j)) (getD w j 0) ≡ true
+use Rattle.laws.specs.Inclusion.{In, Within, Single}
+use Rattle.laws.specs.Supported.{InRow}
+use Rattle.laws.proofs.ListLaws.{Sub, of-flatMap, in-flatMap, flatMap-small}
+use Rattle.laws.proofs.WordLaws.{zero-bit, pow-self, pow-only, pow-within, zero-within, of-bits, in-bits, noneFrom-bits}
+use Rattle.laws.proofs.BitsLaws.{single, single-of}
 
 -- its length and its symbols are numbers that a word of 64 bits can allow
 pub record Short (w : List ℕ) : Type 0 where

@@ -13,12 +13,13 @@ use Rattle.model.specs.Constraints.{Choice, Problem, Constraint, always, width,
 use Rattle.model.specs.Solutions.{Fits, Solution, used, tableOf, InRange, WellFormed}
 use Rattle.model.specs.Support.{touches, narrowed}
 use Rattle.model.specs.Rounds.{steps}
-use Rattle.laws.proofs.ListLaws.{In, of-upto, from-length, from-getD}
-use Rattle.laws.proofs.WordLaws.{Within, pow-self, of-bits, in-bits}
-use Rattle.laws.proofs.TableLaws.{Below, below-of, below-antisym}
+use Rattle.laws.specs.Inclusion.{In, Within, Below}
+use Rattle.laws.specs.Lent.{Stable}
+use Rattle.laws.proofs.ListLaws.{of-upto, from-length, from-getD}
+use Rattle.laws.proofs.WordLaws.{pow-self, of-bits, in-bits}
+use Rattle.laws.proofs.TableLaws.{below-of, below-antisym}
 use Rattle.laws.proofs.DomainLaws.{owner-text, owner-value, used-text, used-value, by-word, InDomain, domain-within, stringsOf-sub, valuesOf-sub, text-transfer}
 use Rattle.laws.proofs.SupportLaws.{Supporting, stays, narrowed-length, narrowed-other, narrowed-below}
-use Rattle.laws.proofs.RoundLaws.{Stable}
 
 pub tableOf-length : (P : Problem) (α : Choice) → length (tableOf P α) ≡ width P
 unfolding tableOf upto

@@ -11,9 +11,10 @@ use Rattle.model.specs.Domains.{Variable, str, num, valuesOf, owner}
 use Rattle.model.specs.Constraints.{Choice, Problem, Constraint, always, eq, neq, rev, cat, sub, len, regular, width, variables, meets}
 use Rattle.model.specs.Solutions.{InRange, used}
 use Rattle.model.specs.Support.{supports, touches, narrowed}
-use Rattle.laws.proofs.ListLaws.{In, of-select, in-select, of-any, in-any, length-mapFrom, mapFrom-getD}
-use Rattle.laws.proofs.WordLaws.{Within, bit-union, of-bits, in-bits, pow-self}
-use Rattle.laws.proofs.TableLaws.{Below, below-of, below-antisym}
+use Rattle.laws.specs.Inclusion.{In, Within, Below}
+use Rattle.laws.proofs.ListLaws.{of-select, in-select, of-any, in-any, length-mapFrom, mapFrom-getD}
+use Rattle.laws.proofs.WordLaws.{bit-union, of-bits, in-bits, pow-self}
+use Rattle.laws.proofs.TableLaws.{below-of, below-antisym}
 use Rattle.laws.proofs.DomainLaws.{owner-text, owner-value, used-text, used-value, used-agree, same-variable, variable-same, InDomain, domain-within, Agree, choices-sound, choices-complete, stringsOf-sub, valuesOf-sub, text-transfer}
 
 -- whether a choice meets a constraint depends only on the constraint's variables

@@ -19,16 +19,12 @@ use Rattle.model.specs.Domains.{str, num, row, stringsOf}
 use Rattle.model.specs.Constraints.{Problem, Constraint, always, variables, meets}
 use Rattle.model.specs.Solutions.{textBit}
 use Rattle.model.specs.Support.{narrowed}
-use Rattle.laws.proofs.ListLaws.{In, from-length, from-getD}
+use Rattle.laws.specs.Inclusion.{In}
+use Rattle.laws.specs.Supported.{OfKinds, Supports}
+use Rattle.laws.proofs.ListLaws.{from-length, from-getD}
 use Rattle.laws.proofs.WordLaws.{zero-bit, within-antisym, or-bit-left, or-bit-right, of-or-bit}
 use Rattle.laws.proofs.DomainLaws.{row-word, row-length, used-text, used-value, InDomain}
 use Rattle.laws.proofs.SupportLaws.{Supporting, stays, stays-only, touched-text, touched-value, narrowed-length}
-
--- these n words have just the bits that some choice that counts uses
-pub record Supports {K : Type 0} (Ok : K → Type 0) (bitsOf : K → ℕ → ℕ) (n : ℕ) (r : List ℕ) : Type 0 where
-  pub count : length r ≡ n
-  pub sound : (i b : ℕ) → i < n → bit (word r i) b ≡ true → (v : K) × Ok v × (bit (bitsOf v i) b ≡ true)
-  pub complete : (i b : ℕ) → i < n → (v : K) → Ok v → bit (bitsOf v i) b ≡ true → bit (word r i) b ≡ true
 
 -- there is only one such list of words
 pub one-support : {K : Type 0} (Ok : K → Type 0) (bitsOf : K → ℕ → ℕ) (n : ℕ) (r s : List ℕ) → Supports Ok bitsOf n r → Supports Ok bitsOf n s → r ≡ s
@@ -102,10 +98,6 @@ either-support A B bitsOf n r s p q = record {
       (λ x. or-bit-right (word r i) (word s i) b (q .complete i b h v x e))
       ok;
 }
-
--- choices of the kinds below m: a loop over the kinds
-abbrev pub OfKinds : {K : Type 0} → (ℕ → K → Type 0) → ℕ → K → Type 0
-OfKinds A m v = (t : ℕ) × (t < m) × A t v
 
 pub no-kinds : {K : Type 0} (A : ℕ → K → Type 0) (bitsOf : K → ℕ → ℕ) (n : ℕ) → Supports (OfKinds A 0) bitsOf n (replicate n 0)
 no-kinds A bitsOf n = none-support (OfKinds A 0) bitsOf n (λ v ok. let h = ok .1 in omega arith)

@@ -11,13 +11,9 @@ use borrow.Author.Tests.{ltb-true, ltb-false}
 use Rattle.model.specs.Lists.{select, from, upto}
 use Rattle.model.specs.Words.{bit, bits, word, Words, size}
 use Rattle.model.specs.Support.{struck}
-use Rattle.laws.proofs.ListLaws.{In, in-upto, from-length}
-use Rattle.laws.proofs.WordLaws.{Within, zero-bit, bit-high, within-antisym}
-
--- T has no bit that U lacks
-pub record Below (T U : List ℕ) : Type 0 where
-  pub same-length : length T ≡ length U
-  pub within : (i : ℕ) → Within (word T i) (word U i)
+use Rattle.laws.specs.Inclusion.{Below, In, Within}
+use Rattle.laws.proofs.ListLaws.{in-upto, from-length}
+use Rattle.laws.proofs.WordLaws.{zero-bit, bit-high, within-antisym}
 
 pub below-refl : (T : List ℕ) → Below T T
 below-refl T = record { same-length = refl; within = λ i b h. h }

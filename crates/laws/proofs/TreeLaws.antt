@@ -14,18 +14,21 @@ use Rattle.model.specs.Words.{bit, bits, several, word, Words, size}
 use Rattle.model.specs.Constraints.{Choice, Problem, width}
 use Rattle.model.specs.Solutions.{Solution, used, tableOf, WellFormed}
 use Rattle.model.specs.Order.{Same, Before, First}
-use Rattle.model.specs.Rounds.{alive, settled}
+use Rattle.model.specs.Rounds.{everyValue, settled}
 use Rattle.model.specs.Tree.{solved, branchWord, branch, restricted, children, nodesIn, nodes}
 use Rattle.model.specs.Claim.{NoneSolved}
-use Rattle.laws.proofs.ListLaws.{In, in-flatMap, flatMap-cong, flatMap-map, of-find, bind-some}
+use Rattle.laws.specs.Inclusion.{In, Below}
+use Rattle.laws.specs.Lent.{Stable}
+use Rattle.laws.specs.Traversal.{At}
+use Rattle.laws.proofs.ListLaws.{in-flatMap, flatMap-cong, flatMap-map, of-find, bind-some}
 use Rattle.laws.proofs.WordLaws.{zero-bit, pow-self, pow-only, of-bits, in-bits}
 use Rattle.laws.proofs.BitsLaws.{Increasing, bits-increasing, several-true, two-bits}
-use Rattle.laws.proofs.TableLaws.{Below, below-words, size-le}
-use Rattle.laws.proofs.RoundLaws.{Stable, settled-below, settled-above, settled-stable}
+use Rattle.laws.proofs.TableLaws.{below-words, size-le}
+use Rattle.laws.proofs.RoundLaws.{settled-below, settled-above, settled-stable}
 use Rattle.laws.proofs.SolutionLaws.{tableOf-word, own-below, own-fits, own-stable, solution-below, fits-below}
 use Rattle.laws.proofs.ChildLaws.{child-here, child-below, below-child, child-size}
-use Rattle.laws.proofs.NodeLaws.{firsts, fits-alive, solved-solution, solved-same, solved-own}
-use Rattle.laws.proofs.BranchLaws.{At, branch-cases, children-dead, children-none, children-at, single-solved, used-one, lower-first}
+use Rattle.laws.proofs.NodeLaws.{firsts, fits-every-value, solved-solution, solved-same, solved-own}
+use Rattle.laws.proofs.BranchLaws.{branch-cases, children-dead, children-none, children-at, single-solved, used-one, lower-first}
 
 -- ---- the tree without a bound on its depth
 
@@ -46,7 +49,7 @@ module _ (P : Problem) where
   -- a child has fewer bits than its node, and only bits of the node
   pub children-smaller : (S : List ℕ) → Words S → (U : List ℕ) → In U (children P S) → (size U < size S) × Below U S
   unfolding children restricted Option·elim
-  children-smaller S bd U m = go (alive P S) (branch P S) refl m
+  children-smaller S bd U m = go (everyValue P S) (branch P S) refl m
     where
       go : (t : Bool) (o : Option ℕ) → branch P S ≡ o → In U (cond t (Option·elim o [] (restricted S)) []) → (size U < size S) × Below U S
       go true none e n = elim n [ ]
@@ -122,12 +125,12 @@ module _ (P : Problem) where
           → (d : ℕ) × In d (b ∷ bs) × FirstIn P N (sub d) × ((c : ℕ) → In c (b ∷ bs) → (c ≡ d) ⊎ ((d < c) ⊎ NoneSolved P (sub c)))
       in-tail n r = (r .0, List·Memᴰ·tail (r .1), r .2, λ c m. elim m [ List·Memᴰ·head e ↦ inr (inr (subst (λ (y : ℕ). NoneSolved P (sub y)) (sym e) n)) | List·Memᴰ·tail k ↦ r .3 c k ])
 
--- a solution uses one bit of word k, which S has, and is a solution within the child with that bit
-pub record Goes (P : Problem) (S : List ℕ) (k : ℕ) (α : Choice) : Type 0 where
-  pub at : ℕ
-  pub uses : used (P .strings) α k ≡ 2 ^ at
-  pub there : bit (word S k) at ≡ true
-  pub on : Solution P (set S k (2 ^ at)) α
+-- a solution uses one bit of word `at`, which S has, and is a solution within the child with that bit
+pub record Goes (P : Problem) (S : List ℕ) (at : ℕ) (α : Choice) : Type 0 where
+  pub value : ℕ
+  pub uses : used (P .strings) α at ≡ 2 ^ value
+  pub there : bit (word S at) value ≡ true
+  pub on : Solution P (set S at (2 ^ value)) α
 
 module _ (P : Problem) (wf : WellFormed P) where
   -- a solution stays one in a table that has its bits
@@ -138,156 +141,152 @@ module _ (P : Problem) (wf : WellFormed P) where
   settled-keeps T e α s = solution-own α s (settled-above P (tableOf P α) T (own-stable P α T wf s) (own-below P α T e (s .fits)))
 
   -- a solution goes on into the child of its own bit
-  goes : (S : List ℕ) → Words S → length S ≡ width P → Stable P S → (k : ℕ) → At S k → (α : Choice) → Solution P S α → Goes P S k α
-  goes S bd ln st k a α s =
-      let inside : k < width P = subst (λ (n : ℕ). k < n) ln (a .inside) in
-      let u = used-one P wf S bd ln st α (s .fits) k a inside in
+  goes : (S : List ℕ) → Words S → length S ≡ width P → Stable P S → (at : ℕ) → At S at → (α : Choice) → Solution P S α → Goes P S at α
+  goes S bd ln st at a α s =
+      let inside : at < width P = subst (λ (n : ℕ). at < n) ln (a .inside) in
+      let u = used-one P wf S bd ln st α (s .fits) at a inside in
       let p : Below (tableOf P α) S = own-below P α S ln (s .fits) in
-      let e : word (tableOf P α) k ≡ 2 ^ u .0 = tableOf-word P α k inside ∙ u .1 in
+      let e : word (tableOf P α) at ≡ 2 ^ u .0 = tableOf-word P α at inside ∙ u .1 in
       record {
-        at = u .0;
+        value = u .0;
         uses = u .1;
-        there = p .within k (u .0) (ap (λ (w : ℕ). bit w (u .0)) e ∙ pow-self (u .0));
-        on = solution-own α s (below-child S k (u .0) (a .inside) (tableOf P α) p (λ c q. pow-only (u .0) c (ap (λ (w : ℕ). bit w c) (sym e) ∙ q)));
+        there = p .within at (u .0) (ap (λ (w : ℕ). bit w (u .0)) e ∙ pow-self (u .0));
+        on = solution-own α s (below-child S at (u .0) (a .inside) (tableOf P α) p (λ c q. pow-only (u .0) c (ap (λ (w : ℕ). bit w c) (sym e) ∙ q)));
       }
+
+  -- ---- one node: the table T is settled to S
+
+  module _ (T : List ℕ) (bd : Words T) (ln : length T ≡ width P) where
+    abbrev S : List ℕ
+    S = settled P T
+
+    p : Below S T
+    p = settled-below P T
+
+    lS : length S ≡ width P
+    lS = p .same-length ∙ ln
+
+    bS : Words S
+    bS = below-words p bd
+
+    st : Stable P S
+    st = settled-stable P T bd
+
+    -- a solved node at or below this one, where a solution's child has one
+    complete-at : (f : ℕ) → size T < suc f → (α : Choice) → Solution P T α
+        → ((U : List ℕ) → Words U → length U ≡ width P → size U < f → Solution P U α → (N : List ℕ) × In N (nodesIn f P U) × (solved P N ≡ true))
+        → (N : List ℕ) × In N (S ∷ flatMap (λ U. nodesIn f P U) (children P S)) × (solved P N ≡ true)
+    complete-at f h α s rec = go (solved P S) refl
+      where
+        sS : Solution P S α
+        sS = settled-keeps T ln α s
+
+        lives : everyValue P S ≡ true
+        lives = fits-every-value P S α (sS .fits)
+
+        below : (at : ℕ) → branch P S ≡ some at → At S at → (N : List ℕ) × In N (S ∷ flatMap (λ U. nodesIn f P U) (children P S)) × (solved P N ≡ true)
+        below at e a =
+            let g = goes S bS lS st at a α sS in
+            let b : ℕ = g .value in
+            let U : List ℕ = set S at (2 ^ b) in
+            let pU : Below U S = child-below S at b (a .inside) (g .there) in
+            let smaller = child-size S at b (a .inside) bS (g .there) (a .two) in
+            let le = size-le S T p in
+            let r = rec U (below-words pU bS) (pU .same-length ∙ lS) (omega arith) (g .on) in
+            let m : In U (children P S) = subst (λ (l : List (List ℕ)). In U l) (sym (children-at P wf S bS lS st at e lives))
+            (Memᴰ·map (λ b. set S at (2 ^ b)) (in-bits (word S at) b (g .there) (bS at b (g .there)))) in
+            (r .0, List·Memᴰ·tail (in-flatMap (λ U. nodesIn f P U) m (r .1)), r .2)
+
+        go : (t : Bool) → solved P S ≡ t → (N : List ℕ) × In N (S ∷ flatMap (λ U. nodesIn f P U) (children P S)) × (solved P N ≡ true)
+        go true e = (S, List·Memᴰ·head refl, e)
+        go false e =
+            ⊎-elim (λ n. absurd (false≢true (sym e ∙ single-solved P wf S bS lS st lives (n .1)))) (λ t. below (t .0) (t .1) (t .2)) (branch-cases P wf S bS lS st)
+
+    -- the first solved node at or below this one is its first solution, where that holds of its children and every solution of a child has a solved node
+    first-at : (f : ℕ) → size T < suc f → (N : List ℕ) → FirstIn P N (S ∷ flatMap (λ U. nodesIn f P U) (children P S))
+        → ((U : List ℕ) → Words U → length U ≡ width P → size U < f → (α : Choice) → Solution P U α → (N : List ℕ) × In N (nodesIn f P U) × (solved P N ≡ true))
+        → ((U : List ℕ) → Words U → length U ≡ width P → size U < f → FirstIn P N (nodesIn f P U) → (α : Choice) × First P U α × (N ≡ tableOf P α))
+        → (α : Choice) × First P T α × (N ≡ tableOf P α)
+    unfolding flatMap
+    first-at f h N fi complete rec = go fi
+      where
+        Result : List ℕ → Type 0
+        Result U = (α : Choice) × First P U α × (N ≡ tableOf P α)
+
+        at-root : S ≡ N → solved P N ≡ true → Result T
+        at-root e v =
+            let sv : solved P S ≡ true = ap (solved P) e ∙ v in (
+              firsts P S,
+              record {
+                solution = solution-below P (firsts P S) p (solved-solution P wf S bS lS st sv);
+                least = λ β s. inl (solved-same P wf S bS lS st sv β (settled-keeps T ln β s .fits));
+              },
+              sym e ∙ solved-own P wf S bS lS st sv,
+            )
+
+        -- a solution of the child b against any other solution β of the node
+        against : (at : ℕ) (a : At S at) (b : ℕ) → bit (word S at) b ≡ true → ((c : ℕ) → In c (bits (word S at)) → (c ≡ b) ⊎ ((b < c) ⊎ NoneSolved P (nodesIn f P (set S at (2 ^ c)))))
+            → (r : Result (set S at (2 ^ b))) → Solution P S (r .0) → (β : Choice) → Solution P S β → Same P (r .0) β ⊎ Before P (r .0) β
+        against at a b there others r sα β sβ =
+            let g = goes S bS lS st at a β sβ in
+            let gα = goes S bS lS st at a (r .0) sα in
+            let inside : at < width P = subst (λ (n : ℕ). at < n) lS (a .inside) in
+            let le = size-le S T p in
+            let pU : Below (set S at (2 ^ b)) S = child-below S at b (a .inside) there in
+            let pα : Below (tableOf P (r .0)) (set S at (2 ^ b)) = own-below P (r .0) (set S at (2 ^ b)) (pU .same-length ∙ lS) (r .1 .solution .fits) in
+            let own-word : word (tableOf P (r .0)) at ≡ 2 ^ gα .value = tableOf-word P (r .0) at inside ∙ gα .uses in
+            let eα : gα .value ≡ b = pow-only b (gα .value) (ap (λ (w : ℕ). bit w (gα .value)) (sym (child-here S at b (a .inside))) ∙ pα .within at (gα .value) (ap (λ (w : ℕ). bit w (gα .value)) own-word ∙ pow-self (gα .value))) in
+            ⊎-elim
+            (λ e. r .1 .least β (subst (λ (c : ℕ). Solution P (set S at (2 ^ c)) β) e (g .on)))
+            (⊎-elim
+            (λ l. inr (lower-first P wf S bS lS st (r .0) β (sα .fits) (sβ .fits) at a inside (gα .value) (g .value) (gα .uses) (g .uses) (omega arith)))
+            (λ n.
+            let pV : Below (set S at (2 ^ g .value)) S = child-below S at (g .value) (a .inside) (g .there) in
+            let smaller = child-size S at (g .value) (a .inside) bS (g .there) (a .two) in
+            absurd (none-some P n (complete (set S at (2 ^ g .value)) (below-words pV bS) (pV .same-length ∙ lS) (omega arith) β (g .on)))))
+            (others (g .value) (in-bits (word S at) (g .value) (g .there) (bS at (g .value) (g .there))))
+
+        by-branch : (at : ℕ) → At S at → FirstIn P N (flatMap (λ b. nodesIn f P (set S at (2 ^ b))) (bits (word S at))) → Result T
+        by-branch at a fb =
+            let t = first-below P (λ b. nodesIn f P (set S at (2 ^ b))) (bits (word S at)) (bits-increasing (word S at)) N fb in
+            let b : ℕ = t .0 in
+            let there : bit (word S at) b ≡ true = of-bits (word S at) (t .1) .0 in
+            let le = size-le S T p in
+            let pU : Below (set S at (2 ^ b)) S = child-below S at b (a .inside) there in
+            let smaller = child-size S at b (a .inside) bS there (a .two) in
+            let r = rec (set S at (2 ^ b)) (below-words pU bS) (pU .same-length ∙ lS) (omega arith) (t .2) in
+            let sα : Solution P S (r .0) = solution-below P (r .0) pU (r .1 .solution) in
+            (r .0, record { solution = solution-below P (r .0) p sα; least = λ β s. against at a b there (t .3) r sα β (settled-keeps T ln β s) }, r .2)
+
+        go : FirstIn P N (S ∷ flatMap (λ U. nodesIn f P U) (children P S)) → Result T
+        go (here e v) = at-root e v
+        go (later q fb) = by-every-value (everyValue P S) refl
+          where
+            childless : children P S ≡ [] → Result T
+            childless e = no-first (subst (λ (l : List (List ℕ)). FirstIn P N (flatMap (λ U. nodesIn f P U) l)) e fb)
+              where
+                no-first : FirstIn P N [] → Result T
+                no-first x = elim x [ ]
+
+            by-every-value : (t : Bool) → everyValue P S ≡ t → Result T
+            by-every-value false l = childless (children-dead P wf S bS lS st l)
+            by-every-value true l =
+                ⊎-elim (λ n. childless (children-none P wf S bS lS st (n .0)))
+                (λ t. by-branch (t .0) (t .2)
+                (subst (FirstIn P N) (flatMap-map (λ U. nodesIn f P U) (λ b. set S (t .0) (2 ^ b)) (bits (word S (t .0))))
+                (subst (λ (l : List (List ℕ)). FirstIn P N (flatMap (λ U. nodesIn f P U) l)) (children-at P wf S bS lS st (t .0) (t .1) l) fb)))
+                (branch-cases P wf S bS lS st)
 
   -- ---- every solution has a solved node
 
   pub complete : (f : ℕ) (T : List ℕ) → Words T → length T ≡ width P → size T < f → (α : Choice) → Solution P T α → (N : List ℕ) × In N (nodesIn f P T) × (solved P N ≡ true)
   unfolding nodesIn
   complete zero T bd ln h α s = absurd (omega arith)
-  complete (suc f) T bd ln h α s = go (solved P S) refl (λ U a b c d. complete f U a b c α d)
-    where
-      S : List ℕ
-      S = settled P T
-
-      p : Below S T
-      p = settled-below P T
-
-      lS : length S ≡ width P
-      lS = p .same-length ∙ ln
-
-      bS : Words S
-      bS = below-words p bd
-
-      st : Stable P S
-      st = settled-stable P T bd
-
-      sS : Solution P S α
-      sS = settled-keeps T ln α s
-
-      lives : alive P S ≡ true
-      lives = fits-alive P S α (sS .fits)
-
-      Rec : Type 0
-      Rec = (U : List ℕ) → Words U → length U ≡ width P → size U < f → Solution P U α → (N : List ℕ) × In N (nodesIn f P U) × (solved P N ≡ true)
-
-      below : Rec → (k : ℕ) → branch P S ≡ some k → At S k → (N : List ℕ) × In N (S ∷ flatMap (λ U. nodesIn f P U) (children P S)) × (solved P N ≡ true)
-      below rec k e a =
-          let g = goes S bS lS st k a α sS in
-          let b : ℕ = g .at in
-          let U : List ℕ = set S k (2 ^ b) in
-          let pU : Below U S = child-below S k b (a .inside) (g .there) in
-          let smaller = child-size S k b (a .inside) bS (g .there) (a .two) in
-          let le = size-le S T p in
-          let r = rec U (below-words pU bS) (pU .same-length ∙ lS) (omega arith) (g .on) in
-          let m : In U (children P S) = subst (λ (l : List (List ℕ)). In U l) (sym (children-at P wf S bS lS st k e lives))
-          (Memᴰ·map (λ b. set S k (2 ^ b)) (in-bits (word S k) b (g .there) (bS k b (g .there)))) in
-          (r .0, List·Memᴰ·tail (in-flatMap (λ U. nodesIn f P U) m (r .1)), r .2)
-
-      go : (t : Bool) → solved P S ≡ t → Rec → (N : List ℕ) × In N (S ∷ flatMap (λ U. nodesIn f P U) (children P S)) × (solved P N ≡ true)
-      go true e rec = (S, List·Memᴰ·head refl, e)
-      go false e rec =
-          ⊎-elim (λ n. absurd (false≢true (sym e ∙ single-solved P wf S bS lS st lives (n .1)))) (λ t. below rec (t .0) (t .1) (t .2)) (branch-cases P wf S bS lS st)
+  complete (suc f) T bd ln h α s = complete-at T bd ln f h α s (λ U a b c d. complete f U a b c α d)
 
   -- ---- the first solved node is the first solution
 
   pub first : (f : ℕ) (T : List ℕ) → Words T → length T ≡ width P → size T < f → (N : List ℕ) → FirstIn P N (nodesIn f P T) → (α : Choice) × First P T α × (N ≡ tableOf P α)
-  unfolding nodesIn flatMap
+  unfolding nodesIn
   first zero T bd ln h N fi = absurd (omega arith)
-  first (suc f) T bd ln h N fi = go fi (λ U a b c d. first f U a b c N d)
-    where
-      S : List ℕ
-      S = settled P T
-
-      p : Below S T
-      p = settled-below P T
-
-      lS : length S ≡ width P
-      lS = p .same-length ∙ ln
-
-      bS : Words S
-      bS = below-words p bd
-
-      st : Stable P S
-      st = settled-stable P T bd
-
-      Result : List ℕ → Type 0
-      Result U = (α : Choice) × First P U α × (N ≡ tableOf P α)
-
-      Rec : Type 0
-      Rec = (U : List ℕ) → Words U → length U ≡ width P → size U < f → FirstIn P N (nodesIn f P U) → Result U
-
-      at-root : S ≡ N → solved P N ≡ true → Result T
-      at-root e v =
-          let sv : solved P S ≡ true = ap (solved P) e ∙ v in (
-            firsts P S,
-            record {
-              solution = solution-below P (firsts P S) p (solved-solution P wf S bS lS st sv);
-              least = λ β s. inl (solved-same P wf S bS lS st sv β (settled-keeps T ln β s .fits));
-            },
-            sym e ∙ solved-own P wf S bS lS st sv,
-          )
-
-      -- a solution of the child b against any other solution β of the node
-      against : (k : ℕ) (a : At S k) (b : ℕ) → bit (word S k) b ≡ true → ((c : ℕ) → In c (bits (word S k)) → (c ≡ b) ⊎ ((b < c) ⊎ NoneSolved P (nodesIn f P (set S k (2 ^ c)))))
-          → (r : Result (set S k (2 ^ b))) → Solution P S (r .0) → (β : Choice) → Solution P S β → Same P (r .0) β ⊎ Before P (r .0) β
-      against k a b there others r sα β sβ =
-          let g = goes S bS lS st k a β sβ in
-          let gα = goes S bS lS st k a (r .0) sα in
-          let inside : k < width P = subst (λ (n : ℕ). k < n) lS (a .inside) in
-          let le = size-le S T p in
-          let pU : Below (set S k (2 ^ b)) S = child-below S k b (a .inside) there in
-          let pα : Below (tableOf P (r .0)) (set S k (2 ^ b)) = own-below P (r .0) (set S k (2 ^ b)) (pU .same-length ∙ lS) (r .1 .solution .fits) in
-          let own-k : word (tableOf P (r .0)) k ≡ 2 ^ gα .at = tableOf-word P (r .0) k inside ∙ gα .uses in
-          let eα : gα .at ≡ b = pow-only b (gα .at) (ap (λ (w : ℕ). bit w (gα .at)) (sym (child-here S k b (a .inside))) ∙ pα .within k (gα .at) (ap (λ (w : ℕ). bit w (gα .at)) own-k ∙ pow-self (gα .at))) in
-          ⊎-elim
-          (λ e. r .1 .least β (subst (λ (c : ℕ). Solution P (set S k (2 ^ c)) β) e (g .on)))
-          (⊎-elim
-          (λ l. inr (lower-first P wf S bS lS st (r .0) β (sα .fits) (sβ .fits) k a inside (gα .at) (g .at) (gα .uses) (g .uses) (omega arith)))
-          (λ n.
-          let pV : Below (set S k (2 ^ g .at)) S = child-below S k (g .at) (a .inside) (g .there) in
-          let smaller = child-size S k (g .at) (a .inside) bS (g .there) (a .two) in
-          absurd (none-some P n (complete f (set S k (2 ^ g .at)) (below-words pV bS) (pV .same-length ∙ lS) (omega arith) β (g .on)))))
-          (others (g .at) (in-bits (word S k) (g .at) (g .there) (bS k (g .at) (g .there))))
-
-      by-branch : Rec → (k : ℕ) → At S k → FirstIn P N (flatMap (λ b. nodesIn f P (set S k (2 ^ b))) (bits (word S k))) → Result T
-      by-branch rec k a fb =
-          let t = first-below P (λ b. nodesIn f P (set S k (2 ^ b))) (bits (word S k)) (bits-increasing (word S k)) N fb in
-          let b : ℕ = t .0 in
-          let there : bit (word S k) b ≡ true = of-bits (word S k) (t .1) .0 in
-          let le = size-le S T p in
-          let pU : Below (set S k (2 ^ b)) S = child-below S k b (a .inside) there in
-          let smaller = child-size S k b (a .inside) bS there (a .two) in
-          let r = rec (set S k (2 ^ b)) (below-words pU bS) (pU .same-length ∙ lS) (omega arith) (t .2) in
-          let sα : Solution P S (r .0) = solution-below P (r .0) pU (r .1 .solution) in
-          (r .0, record { solution = solution-below P (r .0) p sα; least = λ β s. against k a b there (t .3) r sα β (settled-keeps T ln β s) }, r .2)
-
-      go : FirstIn P N (S ∷ flatMap (λ U. nodesIn f P U) (children P S)) → Rec → Result T
-      go (here e v) rec = at-root e v
-      go (later q fb) rec = by-alive (alive P S) refl
-        where
-          childless : children P S ≡ [] → Result T
-          childless e = no-first (subst (λ (l : List (List ℕ)). FirstIn P N (flatMap (λ U. nodesIn f P U) l)) e fb)
-            where
-              no-first : FirstIn P N [] → Result T
-              no-first x = elim x [ ]
-
-          by-alive : (t : Bool) → alive P S ≡ t → Result T
-          by-alive false l = childless (children-dead P wf S bS lS st l)
-          by-alive true l =
-              ⊎-elim (λ n. childless (children-none P wf S bS lS st (n .0)))
-              (λ t. by-branch rec (t .0) (t .2)
-              (subst (FirstIn P N) (flatMap-map (λ U. nodesIn f P U) (λ b. set S (t .0) (2 ^ b)) (bits (word S (t .0))))
-              (subst (λ (l : List (List ℕ)). FirstIn P N (flatMap (λ U. nodesIn f P U) l)) (children-at P wf S bS lS st (t .0) (t .1) l) fb)))
-              (branch-cases P wf S bS lS st)
+  first (suc f) T bd ln h N fi = first-at T bd ln f h N fi (complete f) (λ U a b c d. first f U a b c N d)

@@ -21,7 +21,7 @@ headOf mark h =
       mark = mark;
     }
 
--- "table (8 bytes a word), constraints (4 bytes each)": where the parts of this trailer lie, if they abut and the trailer starts at this byte
+-- "table (8 bytes a word), constraints (4 bytes each …), automata": where the parts of this trailer lie, if they abut and the trailer starts at this byte
 unfoldable pub placed : Trailer → ℕ → Parts
 placed h end =
     record {

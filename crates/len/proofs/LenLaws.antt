@@ -18,9 +18,10 @@ use Rattle.rows.specs.Rows.{alone, trimmed, stored}
 use Rattle.rows.proofs.TrimLaws.{trimmed-supports}
 use Rattle.rows.proofs.MeetLaws.{and-bit, of-and-bit}
 use Rattle.rows.proofs.Alone.{rows-narrowed, one-word}
+use Rattle.laws.specs.Supported.{InRow, Supports}
 use Rattle.laws.proofs.WordLaws.{bit-high}
-use Rattle.laws.proofs.RowLaws.{InRow, length-pow}
-use Rattle.laws.proofs.Supports.{Supports, moved-support, first-word-supports}
+use Rattle.laws.proofs.RowLaws.{length-pow}
+use Rattle.laws.proofs.Supports.{moved-support, first-word-supports}
 use Rattle.model.specs.Lists.{from, upto}
 use Rattle.model.specs.Rounds.{variablesOf}
 use Rattle.rows.proofs.Placed.{storedAll, setAll, placed}

@@ -15,7 +15,7 @@ use Rattle.model.specs.Reading.{decode}
 use Rattle.layout.specs.declared.Parts.{Parts}
 use Rattle.layout.specs.Replied.{partsOf}
 use Rattle.records.proofs.RecordLaws.{of-bytes}
-use Rattle.records.proofs.RefusalLaws.{decoded-at}
+use Rattle.records.proofs.RecordRefusalLaws.{decoded-at}
 use Rattle.format.specs.Accepting.{problemIn, Usable}
 use Rattle.format.proofs.ContentLaws.{usable-holds}
 use Rattle.list.specs.declared.Constraint.{Constraint}

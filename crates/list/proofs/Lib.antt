@@ -1,5 +1,5 @@
 -- The laws of `list`.
-pub mod WalkLaws
+pub mod StepWalkLaws
 pub mod ListedLaws
 pub mod CopyLaws
 pub mod LendingLaws

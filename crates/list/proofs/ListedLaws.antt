@@ -12,9 +12,11 @@ use Rattle.model.specs.Constraints as model
 use Rattle.model.specs.Constraints.{Problem, always, width}
 use Rattle.model.specs.Reading.{decode}
 use Rattle.model.specs.Operations.{stepAt}
-use Rattle.laws.proofs.ListLaws.{In, getD-in}
+use Rattle.laws.specs.Inclusion.{In}
+use Rattle.laws.specs.Lent.{lendable}
+use Rattle.laws.proofs.ListLaws.{getD-in}
 use Rattle.laws.proofs.TableLaws.{size-most}
-use Rattle.laws.proofs.CallLaws.{lendable, lendable-length}
+use Rattle.laws.proofs.CallLaws.{lendable-length}
 use Rattle.layout.specs.declared.Parts.{Parts}
 use Rattle.records.specs.declared.Record.{Record}
 use Rattle.records.specs.declared.Decoded.{Decoded}
@@ -25,7 +27,7 @@ use Rattle.format.proofs.ContentLaws.{usable-counts}
 use Rattle.steps.specs.Step.{Step}
 use Rattle.list.specs.declared.Constraint.{Constraint}
 use Rattle.list.specs.Listing.{meaning, blank, OfFile, Listed, Ran}
-use Rattle.list.proofs.WalkLaws.{Walked, walk-start, walk-step, walk-lent, walk-ran}
+use Rattle.list.proofs.StepWalkLaws.{Walked, walk-start, walk-step, walk-lent, walk-ran}
 
 module _ (file : List ℕ) (p : Parts) (T : List ℕ) where
   abbrev P : Problem

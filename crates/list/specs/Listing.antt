@@ -9,7 +9,7 @@ use Rattle.model.specs.Constraints.{Problem, always}
 use Rattle.model.specs.Support.{struck}
 use Rattle.model.specs.Rounds.{run}
 use Rattle.model.specs.Reading.{decode}
-use Rattle.laws.proofs.ListLaws.{In}
+use Rattle.laws.specs.Inclusion.{In}
 use Rattle.layout.specs.declared.Parts.{Parts}
 use Rattle.format.specs.Accepting.{problemIn}
 use Rattle.list.specs.declared.Constraint.{Constraint}

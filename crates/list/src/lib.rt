@@ -1,5 +1,5 @@
 // The constraints as a list of records: thin functions take a lent slice of them and call covered steps. The borrow checker's part covers no function that holds
-// a reference to structs, so `at`, `nth`, `each` and `all` are proved by walks of their MIR; what they do stands in covered functions.
+// a reference to structs, so `lent_step`, `own_step`, `lent_steps` and `own_steps` are proved by walks of their MIR; what they do stands in covered functions.
 //
 // Assumes nothing. `requires` asks what refusals 1 to 10 leave, and that the list is the file's.
 ghost use mathlib.Core.Path.{_≡_};
@@ -11,7 +11,7 @@ ghost use Rattle.model.specs.Constraints.{always, Constraint as Meant};
 ghost use Rattle.model.specs.Layout.{part};
 ghost use Rattle.model.specs.Reading.{decode};
 ghost use Rattle.model.specs.Operations.{stepAt};
-ghost use Rattle.laws.proofs.CallLaws.{lendable};
+ghost use Rattle.laws.specs.Lent.{lendable};
 ghost use Rattle.layout.specs.declared.Parts.{Parts};
 ghost use Rattle.format.specs.Accepting.{problemIn, Usable};
 ghost use Rattle.steps.specs.Step.{Step};
@@ -60,7 +60,7 @@ pub fn of_file(file: &[u8], p: layout::Parts) -> [Constraint; 64]
 }
 
 // The step of one constraint of the file.
-pub fn one(c: Constraint, file: &[u8], p: layout::Parts, table: &mut [u64]) -> u32
+pub fn record_step(c: Constraint, file: &[u8], p: layout::Parts, table: &mut [u64]) -> u32
     requires { ⌜ Usable (now file) p × (lendable (problemIn (now file) p) (now table) ≡ true) × OfFile (now file) p c ⌝ }
     ensures { λ r. ⌜ ((d : Meant) → meaning p c ≡ some d → Step (problemIn (now (file .entry)) p) d (now (table .entry)) (now (table .exit)) r) ⌝ }
 {
@@ -72,22 +72,22 @@ pub fn one(c: Constraint, file: &[u8], p: layout::Parts, table: &mut [u64]) -> u
 }
 
 // The step of constraint j of the list.
-pub fn at(cs: &[Constraint], j: usize, file: &[u8], p: layout::Parts, table: &mut [u64]) -> u32
+pub fn lent_step(cs: &[Constraint], j: usize, file: &[u8], p: layout::Parts, table: &mut [u64]) -> u32
     requires { ⌜ Usable (now file) p × (lendable (problemIn (now file) p) (now table) ≡ true) × Listed (now file) p (now cs) × (j < p .c) ⌝ }
     ensures { λ r. ⌜ Step (problemIn (now (file .entry)) p) (getD (problemIn (now (file .entry)) p .constraints) j (always 0))
         (now (table .entry)) (now (table .exit)) r ⌝ }
 {
     let c = cs[j];
-    one(c, file, p, table)
+    record_step(c, file, p, table)
 }
 
 // The same of a list by value, which it lends.
-fn nth(cs: [Constraint; 64], j: usize, file: &[u8], p: layout::Parts, table: &mut [u64]) -> u32
+fn own_step(cs: [Constraint; 64], j: usize, file: &[u8], p: layout::Parts, table: &mut [u64]) -> u32
     requires { ⌜ Usable (now file) p × (lendable (problemIn (now file) p) (now table) ≡ true) × Listed (now file) p cs × (j < p .c) ⌝ }
     ensures { λ r. ⌜ Step (problemIn (now (file .entry)) p) (getD (problemIn (now (file .entry)) p .constraints) j (always 0))
         (now (table .entry)) (now (table .exit)) r ⌝ }
 {
-    at(&cs, j, file, p, table)
+    lent_step(&cs, j, file, p, table)
 }
 
 // Step j: constraint j below c, else the trimming of string j - c.
@@ -96,30 +96,30 @@ pub fn step(file: &[u8], p: layout::Parts, j: usize, table: &mut [u64]) -> u32
     ensures { λ r. ⌜ Step (problemIn (now (file .entry)) p) (stepAt (problemIn (now (file .entry)) p) j) (now (table .entry)) (now (table .exit)) r ⌝ }
 {
     if j < p.c {
-        nth(of_file(file, p), j, file, p, table)
+        own_step(of_file(file, p), j, file, p, table)
     } else {
         steps::trim(table, j - p.c)
     }
 }
 
 // The steps of all the file's constraints, in their order; how many bits they struck.
-pub fn each(cs: &[Constraint], file: &[u8], p: layout::Parts, table: &mut [u64]) -> u32
+pub fn lent_steps(cs: &[Constraint], file: &[u8], p: layout::Parts, table: &mut [u64]) -> u32
     requires { ⌜ Usable (now file) p × (lendable (problemIn (now file) p) (now table) ≡ true) × Listed (now file) p (now cs) ⌝ }
     ensures { λ r. ⌜ Ran (problemIn (now (file .entry)) p) (problemIn (now (file .entry)) p .constraints) (now (table .entry)) (now (table .exit)) r ⌝ }
 {
     let mut n: u32 = 0;
     let mut j: usize = 0;
     while j < p.c {
-        n += at(cs, j, file, p, table);
+        n += lent_step(cs, j, file, p, table);
         j += 1;
     }
     n
 }
 
 // The same of a list by value, which it lends.
-pub fn all(cs: [Constraint; 64], file: &[u8], p: layout::Parts, table: &mut [u64]) -> u32
+pub fn own_steps(cs: [Constraint; 64], file: &[u8], p: layout::Parts, table: &mut [u64]) -> u32
     requires { ⌜ Usable (now file) p × (lendable (problemIn (now file) p) (now table) ≡ true) × Listed (now file) p cs ⌝ }
     ensures { λ r. ⌜ Ran (problemIn (now (file .entry)) p) (problemIn (now (file .entry)) p .constraints) (now (table .entry)) (now (table .exit)) r ⌝ }
 {
-    each(&cs, file, p, table)
+    lent_steps(&cs, file, p, table)
 }

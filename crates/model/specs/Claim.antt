@@ -60,7 +60,7 @@ pub record SearchClaim (a : Accepted) (budget : ℕ) (z : Searched) : Type 0 whe
   -- "says found whenever its tree's first solved node lies within the budget"
   pub near : (before after : List (List ℕ)) (S : List ℕ) → nodes (a .problem) (a .table) ≡ before ++ S ∷ after → NoneSolved (a .problem) before
       → solved (a .problem) S ≡ true → length before < budget → (z .outcome ≡ found (suc (length before))) × (z .table ≡ S)
-  -- with a budget for the whole tree: found where there is a solution, else none with the tree's count
+  -- "with a budget for the whole tree it says found when there is a solution, and otherwise none": none with the tree's count
   pub whole : length (nodes (a .problem) (a .table)) ≤ budget → (α : Choice) → Solution (a .problem) (a .table) α → (n : ℕ) × (z .outcome ≡ found n)
   pub nothing : length (nodes (a .problem) (a .table)) ≤ budget → ((α : Choice) → Solution (a .problem) (a .table) α → ⊥)
       → z .outcome ≡ none (length (nodes (a .problem) (a .table)))

@@ -8,7 +8,7 @@ use Rattle.model.specs.Domains.{sameVariable, texts, strings, row, value
 use Rattle.model.specs.Constraints.{variables, differ, reaches, isPart, move, reached, accepts, meets}
 use Rattle.model.specs.Solutions.{textBit, used}
 use Rattle.model.specs.Support.{choices, supports, touches, narrowed, struck}
-use Rattle.model.specs.Rounds.{variablesOf, valueCount, alive, steps, run, round, after, settlingIn, settling}
+use Rattle.model.specs.Rounds.{variablesOf, valueCount, everyValue, steps, run, round, after, settlingIn, settling}
 use Rattle.model.specs.Tree.{solved, wordsOf, branchVariable, branchWord, branch, restricted, children, nodesIn, nodes, numbered, firstSolved, hit, miss, searching}
 use Rattle.model.specs.Replies.{require, andThen}
 use Rattle.model.specs.Reading.{symbolsBelow}
@@ -23,7 +23,7 @@ computed : unfold cases in AllAgree cases
 unfolding cases p1 p2 p3 p4 p5 p6 p7 p8 p9 p10 p11 p12 p13 p14 file14 parity stepCase fileFrom tableFrom quote sets set perform
     select any all find mapFrom from upto same bit bits several noneFrom union size
     sameVariable texts strings row valuesOf owner variables differ reaches isPart move reached accepts meets textBit used
-    choices supports touches narrowed struck variablesOf valueCount alive steps run round after settlingIn settling
+    choices supports touches narrowed struck variablesOf valueCount everyValue steps run round after settlingIn settling
     solved wordsOf branchVariable branchWord branch restricted children nodesIn nodes numbered firstSolved hit miss searching
     require andThen symbolsBelow requireLength onTable stepAt step search flatMap Option·elim bind
 computed = (refl, (refl, (refl, (refl, (refl, (refl, (refl, (refl, (refl, (refl, (refl, (refl, (refl, (refl, tt))))))))))))))

@@ -7,7 +7,7 @@ use lib.Dec.{eqb, leb, ltb}
 use lib.ListN.{length, getD, replicate, drop}
 use Rattle.model.specs.Constraints.{Problem, Constraint, always, width}
 use Rattle.model.specs.Support.{narrowed, struck}
-use Rattle.model.specs.Rounds.{alive, settling}
+use Rattle.model.specs.Rounds.{everyValue, settling}
 use Rattle.model.specs.Tree.{Outcome, searching}
 use Rattle.model.specs.Replies.{Reply, answered, require, andThen}
 use Rattle.model.specs.Reading.{Reading, symbolsBelow}
@@ -61,7 +61,7 @@ pub record Stepped : Type 0 where
   pub struck : ℕ
   pub table : List ℕ
 
--- "It answers the number of bits struck. 11: j at or above c + s"
+-- "It answers the number of bits struck. … 11: j at or above c + s"
 unfoldable pub step : Reading → ℕ → List ℕ → Reply Stepped
 step r j T = onTable r T (λ P.
     let U = narrowed P (stepAt P j) T in
@@ -79,7 +79,7 @@ pub record Settlement : Type 0 where
 unfoldable pub settle : Reading → List ℕ → Reply Settlement
 settle r T = onTable r T (λ P.
     let S = settling P T in
-    answered (record { rounds = S .rounds; everyValue = alive P (S .table); table = S .table }))
+    answered (record { rounds = S .rounds; everyValue = everyValue P (S .table); table = S .table }))
 
 -- ---- Search
 

@@ -12,13 +12,13 @@ pub record Same (P : Problem) (α β : Choice) : Type 0 where
   pub same-texts : (x : ℕ) → x < P .strings → α .text x ≡ β .text x
   pub same-values : (n : ℕ) → n < P .numbers → α .value n ≡ β .value n
 
--- "strings by length, then by the first differing symbol, lower ones first"
+-- "strings by length, then by the first differing symbol, … lower ones first"
 unfoldable pub TextBefore : List ℕ → List ℕ → Type 0
 TextBefore w v =
     (length w < length v)
     ⊎ ((length w ≡ length v) × ((j : ℕ) × (j < length w) × ((i : ℕ) → i < j → getD w i 0 ≡ getD v i 0) × (getD w j 0 < getD v j 0)))
 
--- "Solutions are ordered by string 0, then string 1 and so on, then numbers; numbers by value"
+-- "Solutions are ordered by string 0, then string 1 and so on, then numbers; … numbers by value, lower ones first"
 unfoldable pub Before : Problem → Choice → Choice → Type 0
 Before P α β =
     ((x : ℕ) × (x < P .strings) × ((y : ℕ) → y < x → α .text y ≡ β .text y) × TextBefore (α .text x) (β .text x))

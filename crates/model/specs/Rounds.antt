@@ -20,14 +20,14 @@ valueCount P T (str x) = length (stringsOf T x)
 valueCount P T (num n) = length (valuesOf (P .strings) T n)
 
 -- "every variable still has a value"
-unfoldable pub alive : Problem → List ℕ → Bool
-alive P T = all (λ v. leb 1 (valueCount P T v)) (variablesOf P)
+unfoldable pub everyValue : Problem → List ℕ → Bool
+everyValue P T = all (λ v. leb 1 (valueCount P T v)) (variablesOf P)
 
 -- "a round trims every string in order, then takes every constraint in order"
 unfoldable pub steps : Problem → List Constraint
 steps P = map always (upto (P .strings)) ++ P .constraints
 
--- these steps, one after the other; "it goes on after a variable has lost its last value"
+-- these steps, one after the other; "It goes on after a variable has lost its last value"
 unfoldable pub run : Problem → List Constraint → List ℕ → List ℕ
 run P [] T = T
 run P (c ∷ cs) T = run P cs (narrowed P c T)

@@ -35,8 +35,8 @@ supports P c T = select (meets P c) (choices (P .strings) T (variables c))
 unfoldable pub touches : Problem → Constraint → ℕ → Bool
 touches P c i = any (sameVariable (owner (P .strings) i)) (variables c)
 
--- "A length stays if a choice has X that long. A symbol at place i stays if a choice has X at least i long with that symbol there. A number stays if a
--- choice uses it. All other bits of those variables are struck; other variables are untouched."
+-- "A length of X stays if a choice has X that long. A symbol at place i stays if a choice has X at least i long with that symbol there. A number stays if
+-- a choice uses it. All other bits of those variables are struck; other variables are untouched."
 unfoldable pub narrowed : Problem → Constraint → List ℕ → List ℕ
 narrowed P c T =
     let good = supports P c T in

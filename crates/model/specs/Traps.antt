@@ -10,7 +10,7 @@ use Rattle.model.specs.Domains.{sameVariable, texts, strings, row, value
 use Rattle.model.specs.Constraints.{neq, variables, differ, meets}
 use Rattle.model.specs.Solutions.{textBit, used}
 use Rattle.model.specs.Support.{choices, supports, touches, narrowed, struck}
-use Rattle.model.specs.Rounds.{variablesOf, valueCount, alive, steps, run, round, after, settlingIn, settling}
+use Rattle.model.specs.Rounds.{variablesOf, valueCount, everyValue, steps, run, round, after, settlingIn, settling}
 use Rattle.model.specs.Replies.{answered, require, andThen}
 use Rattle.model.specs.Reading.{Accepted, symbolsBelow}
 use Rattle.model.specs.Operations.{requireLength, onTable, stepAt, step, settle}
@@ -37,6 +37,6 @@ pub emptyFirst-settles : settle (answered emptyFirst) (emptyFirst .table) ≡ an
 unfolding emptyFirst fileFrom tableFrom sets set quote
     select any all mapFrom from upto same bit bits noneFrom union size
     sameVariable texts strings row valuesOf owner variables meets textBit used choices supports touches narrowed struck
-    variablesOf valueCount alive steps run round after settlingIn settling
+    variablesOf valueCount everyValue steps run round after settlingIn settling
     require andThen symbolsBelow requireLength onTable settle flatMap
 emptyFirst-settles = refl

@@ -9,7 +9,7 @@ use Rattle.model.specs.Lists.{all, find, from, mapFrom}
 use Rattle.model.specs.Words.{bits, several, size, word}
 use Rattle.model.specs.Domains.{Variable, str, num}
 use Rattle.model.specs.Constraints.{Problem}
-use Rattle.model.specs.Rounds.{variablesOf, valueCount, alive, settled}
+use Rattle.model.specs.Rounds.{variablesOf, valueCount, everyValue, settled}
 
 -- "If all have exactly one, it is solved"
 unfoldable pub solved : Problem → List ℕ → Bool
@@ -38,7 +38,7 @@ restricted S i = map (λ b. set S i (2 ^ b)) (bits (word S i))
 
 -- "If a variable has no value it is dead"; a solved node has no variable to branch on
 unfoldable pub children : Problem → List ℕ → List (List ℕ)
-children P S = cond (alive P S) (Option·elim (branch P S) [] (restricted S)) []
+children P S = cond (everyValue P S) (Option·elim (branch P S) [] (restricted S)) []
 
 -- the nodes at and below T, to a depth of f
 unfoldable pub nodesIn : ℕ → Problem → List ℕ → List (List ℕ)
@@ -74,7 +74,7 @@ pub record Search : Type 0 where
   pub table : List ℕ
 
 -- "Found, with the count up to and including the first solved node, if that node lies within the budget: the answer table holds it";
--- "Spent, with the count equal to the budget, otherwise"; "Spent leaves the answer table alone"
+-- "Spent, with the count equal to the budget, otherwise"; "None and Spent leave the answer table alone"
 unfoldable pub hit : ℕ → List ℕ → Node → Search
 hit budget A N = cond (leb (N .number) budget) (record { outcome = found (N .number); table = N .table }) (record { outcome = spent budget; table = A })
 

@@ -1,4 +1,4 @@
 -- The laws of Neq: rows that stand for one string; the strings other than that one; the step.
-pub mod SingleLaws
+pub mod OneStringLaws
 pub mod OtherLaws
 pub mod StepLaws

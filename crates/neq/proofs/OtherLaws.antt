@@ -17,10 +17,11 @@ use Rattle.model.specs.Solutions.{textBit}
 use Rattle.rows.specs.Rows.{trimmed}
 use Rattle.rows.proofs.TrimLaws.{trimmed-supports}
 use Rattle.rows.proofs.MeetLaws.{and-bit, of-and-bit, joined-or}
+use Rattle.laws.specs.Inclusion.{Within}
+use Rattle.laws.specs.Supported.{InRow, Supports, OfKinds}
 use Rattle.laws.proofs.ListLaws.{of-any, of-upto}
-use Rattle.laws.proofs.WordLaws.{Within}
-use Rattle.laws.proofs.RowLaws.{InRow, length-used, symbol-used, used-length, used-symbol, used-within, in-wider}
-use Rattle.laws.proofs.Supports.{Supports, OfKinds, no-kinds, next-kind}
+use Rattle.laws.proofs.RowLaws.{length-used, symbol-used, used-length, used-symbol, used-within, in-wider}
+use Rattle.laws.proofs.Supports.{no-kinds, next-kind}
 use Rattle.neq.specs.Others.{differingAt, otherThan}
 use Rattle.laws.proofs.ShiftLaws.{bit-flip}
 

@@ -19,11 +19,12 @@ use Rattle.rows.specs.Rows.{alone, trimmed, stored}
 use Rattle.rows.proofs.Fill.{array-words}
 use Rattle.rows.proofs.TrimLaws.{trimmed-supports}
 use Rattle.rows.proofs.TwoStrings.{Met, two-narrowed}
-use Rattle.laws.proofs.RowLaws.{InRow, short-of, used-length}
+use Rattle.laws.specs.Supported.{InRow, Supports, OfKinds}
+use Rattle.laws.proofs.RowLaws.{short-of, used-length}
 use Rattle.laws.proofs.NeqLaws.{differ-true, differ-false, differ-sym}
-use Rattle.laws.proofs.Supports.{Supports, OfKinds, none-support, moved-support}
+use Rattle.laws.proofs.Supports.{none-support, moved-support}
 use Rattle.neq.specs.Others.{Against, differingAt, otherThan}
-use Rattle.neq.proofs.SingleLaws.{no-string, only-string, only-words, two-strings}
+use Rattle.neq.proofs.OneStringLaws.{no-string, only-string, only-words, two-strings}
 use Rattle.neq.proofs.OtherLaws.{other-supports, of-kind, in-kind}
 use Rattle.model.specs.Domains.{row}
 use Rattle.rows.proofs.PlacedKinds.{placed-two}

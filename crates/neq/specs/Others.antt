@@ -7,7 +7,7 @@ use lib.Bits.{bitAnd}
 use lib.ListN.{set, replicate}
 use Rattle.model.specs.Words.{word}
 use Rattle.model.specs.Constraints.{differ}
-use Rattle.laws.proofs.RowLaws.{InRow}
+use Rattle.laws.specs.Supported.{InRow}
 use Rattle.rows.specs.Rows.{trimmed, joined}
 
 -- w is a string of x, and differs from some string of y

@@ -47,7 +47,7 @@ use borrow.Rule.Slice.Know.{AllWT, fit-at, shs-known}
 use Rattle.model.specs.Layout.{Bytes}
 use Rattle.reader.specs.Places.{after}
 use Rattle.reader.specs.declared.Reader.{Reader}
-use Rattle.reader.proofs.Answers.{answers}
+use Rattle.reader.proofs.AnsweredCalls.{answers}
 use Rattle.reader.proofs.Reader as T
 use Rattle.reader.proofs.Reader.Laws as T′
 use Rattle.reader.proofs.next as next

@@ -14,15 +14,15 @@ use Rattle.model.specs.Words.{bit, word}
 use Rattle.model.specs.Constraints.{Automaton, move, reached, accepts, regular, variables, meets, Problem, noAutomaton, width}
 use Rattle.model.specs.Solutions.{textBit}
 use Rattle.model.specs.Support.{narrowed}
-use Rattle.laws.proofs.RowLaws.{InRow, used-length, used-symbol, symbol-inside}
-use Rattle.laws.proofs.Supports.{Supports}
+use Rattle.laws.specs.Supported.{InRow, Supports}
+use Rattle.laws.proofs.RowLaws.{used-length, used-symbol, symbol-inside}
 use Rattle.rows.specs.Rows.{alone, stored}
 use Rattle.rows.proofs.Windows.{uses-symbol, uses-length}
 use Rattle.words.specs.Ends.{Lowest}
-use Rattle.automata.specs.Sets.{Leads}
+use Rattle.automata.specs.StateSets.{Leads}
 use Rattle.automata.proofs.SetLaws.{Walked, walked-skip, walked-one}
 use Rattle.regular.specs.Paths.{Reach, Ends}
-use Rattle.regular.specs.Sets.{Forward, Backward, Lengths, Symbols}
+use Rattle.regular.specs.PlaceSets.{Forward, Backward, Lengths, Symbols}
 use Rattle.regular.proofs.PathLaws.{reached-append, allowed-first, first-allowed, allowed-cons, allowed-append, allowed-take, allowed-drop}
 use Rattle.regular.proofs.BitLaws.{meeting-bit, no-meeting-bit}
 use Rattle.regular.proofs.StateLaws.{Suited, reach-known}

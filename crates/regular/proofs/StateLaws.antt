@@ -21,10 +21,10 @@ use Rattle.laws.proofs.DomainLaws.{row-word}
 use Rattle.model.specs.Constraints.{Automaton, move}
 use Rattle.laws.proofs.WordLaws.{zero-bit, pow-self, pow-only, in-bits, noneFrom-bits, noneFrom-all, or-bit-left, or-bit-right, of-or-bit}
 use Rattle.automata.specs.Machine.{stateCount, machine, Whole}
-use Rattle.automata.specs.Sets.{Successors, Predecessors}
+use Rattle.automata.specs.StateSets.{Successors, Predecessors}
 use Rattle.automata.proofs.MachineLaws.{move-known}
 use Rattle.regular.specs.Paths.{Reach, Ends}
-use Rattle.regular.specs.Sets.{Alphabet, Forward, Backward}
+use Rattle.regular.specs.PlaceSets.{Alphabet, Forward, Backward}
 use Rattle.regular.proofs.BitLaws.{where-bit, of-where-bit}
 use Rattle.regular.proofs.PathLaws.{reach-start, start-only, reach-next, reach-came, ends-here, ends-next, ends-cases}
 

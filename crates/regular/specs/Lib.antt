@@ -1,3 +1,3 @@
 -- The definitions that the contracts of `regular` cite.
 pub mod Paths
-pub mod Sets
+pub mod PlaceSets

@@ -11,8 +11,8 @@ ghost use Rattle.model.specs.Constraints.{regular};
 ghost use Rattle.model.specs.Support.{narrowed};
 ghost use Rattle.rows.specs.Rows.{alone};
 ghost use Rattle.automata.specs.Machine.{stateCount, machine, Whole};
-ghost use Rattle.automata.specs.Sets.{Successors, Predecessors};
-ghost use Rattle.regular.specs.Sets.{Alphabet, Forward, Backward, Lengths, Symbols};
+ghost use Rattle.automata.specs.StateSets.{Successors, Predecessors};
+ghost use Rattle.regular.specs.PlaceSets.{Alphabet, Forward, Backward, Lengths, Symbols};
 
 // What the automaton was asked at a place, and its answer: the states that the set moves to by the word, or those that move into it.
 struct Asked {
@@ -140,7 +140,7 @@ fn lengths(allowed: u64, accepting: u32, before: [u32; 64]) -> u64
     let mut r: u64 = 0;
     while rest != 0 {
         let l = words::lowest(rest);
-        let alone = words::single(l);
+        let alone = words::singleton(l);
         if accepting & before[l] != 0 {
             r = alone | r;
         }
@@ -158,7 +158,7 @@ fn symbols(d: &[u8], k: usize, allowed: u64, before: u32, after: u32) -> u64
     let mut r: u64 = 0;
     while rest != 0 {
         let a = words::lowest(rest);
-        let alone = words::single(a);
+        let alone = words::singleton(a);
         if automata::leads(d, k, before, after, a) {
             r = alone | r;
         }

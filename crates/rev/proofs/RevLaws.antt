@@ -16,10 +16,11 @@ use Rattle.rows.specs.Rows.{alone, trimmed, met, joined, stored}
 use Rattle.rows.proofs.TrimLaws.{trimmed-supports}
 use Rattle.rows.proofs.MeetLaws.{met-length, met-words, in-met, of-met, and-bit, of-and-bit, joined-or}
 use Rattle.rows.proofs.TwoStrings.{Two, Met, two-narrowed}
+use Rattle.laws.specs.Supported.{InRow, Supports, OfKinds}
 use Rattle.laws.proofs.ListLaws.{same-true, same-refl, getD-reverse}
 use Rattle.laws.proofs.WordLaws.{pow-self, pow-only}
-use Rattle.laws.proofs.RowLaws.{InRow, short-of}
-use Rattle.laws.proofs.Supports.{Supports, moved-support, OfKinds, next-kind, skip-kind}
+use Rattle.laws.proofs.RowLaws.{short-of}
+use Rattle.laws.proofs.Supports.{moved-support, next-kind, skip-kind}
 use Rattle.rev.specs.Turned.{Backwards, Turned, Turning}
 use Rattle.model.specs.Domains.{row}
 use Rattle.rows.proofs.PlacedKinds.{placed-two}

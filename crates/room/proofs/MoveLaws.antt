@@ -12,26 +12,25 @@ use borrow.Author.Tests.{ltb-true, ltb-false}
 use Rattle.model.specs.Words.{word}
 use Rattle.model.specs.Layout.{little}
 use Rattle.model.specs.Reading.{pieces}
-use Rattle.laws.proofs.PartLaws.{replaced, replaced-length, Copied, copied-step, copied-rest, copied-front}
-use Rattle.laws.proofs.LoopLaws.{base}
+use Rattle.laws.specs.Traversal.{base}
+use Rattle.laws.proofs.SliceLaws.{replaced, replaced-length, Copied, copied-step, copied-rest, copied-front}
 use Rattle.laws.proofs.LayoutLaws.{part-length}
 use Rattle.laws.proofs.ReadingLaws.{table-length, table-drop}
 use Rattle.words.specs.Ends.{Lowest}
 use Rattle.room.specs.Tables.{tableAt, Tables, Down, Back}
-use Rattle.room.proofs.TableAtLaws.{tables-of, tableAt-word, tableAt-length, lent-part}
-use Rattle.room.proofs.TableAtLaws.{set-current, set-decided, set-waiting, lent-current, lent-decided, lent-waiting}
+use Rattle.room.proofs.TableAtLaws.{tables-of, tableAt-word, tableAt-length, lent-part, set-current, set-decided, set-waiting, lent-current, lent-decided, lent-waiting}
 
 -- the table that a file's bytes stand for
 abbrev fileTable : ℕ → List ℕ → List ℕ
 fileTable m bytes = map little (pieces m 8 bytes)
 
 -- a turn of the loop towards the first word, past a word at which nothing waits
-pub nothing-step : (T : List ℕ) (k : ℕ) → 0 < k → word T (k - 1) ≡ 0 → ((j : ℕ) → k ≤ j → word T j ≡ 0) → (j : ℕ) → k - 1 ≤ j → word T j ≡ 0
-nothing-step T k h e f j g = go (ltb j k) refl
+pub nothing-step : (T : List ℕ) (at : ℕ) → 0 < at → word T (at - 1) ≡ 0 → ((j : ℕ) → at ≤ j → word T j ≡ 0) → (j : ℕ) → at - 1 ≤ j → word T j ≡ 0
+nothing-step T at h e f j g = go (ltb j at) refl
   where
-    go : (t : Bool) → ltb j k ≡ t → word T j ≡ 0
-    go true l = let i : j ≡ k - 1 = omega (arith, ltb-true j k l) in ap (word T) i ∙ e
-    go false l = f j (ltb-false j k l)
+    go : (t : Bool) → ltb j at ≡ t → word T j ≡ 0
+    go true l = let i : j ≡ at - 1 = omega (arith, ltb-true j at l) in ap (word T) i ∙ e
+    go false l = f j (ltb-false j at l)
 
 -- ---- the root
 
@@ -59,27 +58,27 @@ start-tables m bytes R cur dec alt h e₁ e₂ e₃ =
 
 -- ---- down
 
-pub down-right : (m k v s : ℕ) (R : List ℕ) → k < m → Lowest (word R k) v → s ≡ 2 ^ v
-    → Down m k R (set (set (set R k s) (m + k) s) (2 * m + k) (word R k - s))
-down-right m k v s R h l e =
-    let z : m * 0 + k ≡ k = omega arith in
-    let w : word R k ≡ word (tableAt m 0 R) k = sym (tableAt-word m 0 k R h ∙ ap (word R) z) in
-    let t₁ = set-current m R _ _ _ _ (tables-of m R) k s h in
-    let t₂ = set-decided m (set R k s) _ _ _ _ t₁ k s h in
-    let t₃ = set-waiting m (set (set R k s) (m + k) s) _ _ _ _ t₂ k (word R k - s) h in
-    let p : word R k - s ≡ word (tableAt m 0 R) k - 2 ^ v = ap₂ (λ (x y : ℕ). x - y) w e in
+pub down-right : (m at v s : ℕ) (R : List ℕ) → at < m → Lowest (word R at) v → s ≡ 2 ^ v
+    → Down m at R (set (set (set R at s) (m + at) s) (2 * m + at) (word R at - s))
+down-right m at v s R h l e =
+    let z : m * 0 + at ≡ at = omega arith in
+    let w : word R at ≡ word (tableAt m 0 R) at = sym (tableAt-word m 0 at R h ∙ ap (word R) z) in
+    let t₁ = set-current m R _ _ _ _ (tables-of m R) at s h in
+    let t₂ = set-decided m (set R at s) _ _ _ _ t₁ at s h in
+    let t₃ = set-waiting m (set (set R at s) (m + at) s) _ _ _ _ t₂ at (word R at - s) h in
+    let p : word R at - s ≡ word (tableAt m 0 R) at - 2 ^ v = ap₂ (λ (x y : ℕ). x - y) w e in
     record {
       value = v;
       lowest = rw (← w) l;
       tables = record {
-        current = t₃ .current ∙ ap (set (tableAt m 0 R) k) e;
-        decided = t₃ .decided ∙ ap (set (tableAt m 1 R) k) e;
-        waiting = t₃ .waiting ∙ ap (set (tableAt m 2 R) k) p;
+        current = t₃ .current ∙ ap (set (tableAt m 0 R) at) e;
+        decided = t₃ .decided ∙ ap (set (tableAt m 1 R) at) e;
+        waiting = t₃ .waiting ∙ ap (set (tableAt m 2 R) at) p;
         beyond = t₃ .beyond;
       };
     }
 
--- ---- a decision: word k of T is stored, and the words past it are lent, with the bytes that stand for them
+-- ---- a decision: word `at` of T is stored, and the words past it are lent, with the bytes that stand for them
 
 lent-rest : (a : ℕ) (l : List ℕ) → take (length l - a) (drop a l) ≡ drop a l
 lent-rest a l = take-all (length l - a) (drop a l) (omega (arith, length-drop a l))
@@ -88,41 +87,41 @@ lent-rest a l = take-all (length l - a) (drop a l) (omega (arith, length-drop a 
 pub lent-length : (R : List ℕ) (i v a n : ℕ) (ys : List ℕ) → length ys ≡ length (take n (drop a (set R i v))) → length (replaced (set R i v) a n ys) ≡ length R
 lent-length R i v a n ys e = replaced-length (set R i v) a n ys e ∙ length-set R i v
 
-module _ (k v : ℕ) (bytes T : List ℕ) (e : length bytes ≡ 8 * length T) (h : k < length T) where
+module _ (at v : ℕ) (bytes T : List ℕ) (e : length bytes ≡ 8 * length T) (h : at < length T) where
   -- the words, and the bytes
   abbrev words : List ℕ
-  words = take (length (set T k v) - (k + 1)) (drop (k + 1) (set T k v))
+  words = take (length (set T at v) - (at + 1)) (drop (at + 1) (set T at v))
 
   abbrev rest : List ℕ
-  rest = take (length bytes - 8 * (k + 1)) (drop (8 * (k + 1)) bytes)
+  rest = take (length bytes - 8 * (at + 1)) (drop (8 * (at + 1)) bytes)
 
-  words-length : length words ≡ length T - (k + 1)
-  words-length = ap length (lent-rest (k + 1) (set T k v)) ∙ length-drop (k + 1) (set T k v) ∙ ap (λ (i : ℕ). i - (k + 1)) (length-set T k v)
+  words-length : length words ≡ length T - (at + 1)
+  words-length = ap length (lent-rest (at + 1) (set T at v)) ∙ length-drop (at + 1) (set T at v) ∙ ap (λ (i : ℕ). i - (at + 1)) (length-set T at v)
 
   pub rest-there : length rest ≡ 8 * length words
-  rest-there = omega (arith, words-length, ap length (lent-rest (8 * (k + 1)) bytes), length-drop (8 * (k + 1)) bytes)
+  rest-there = omega (arith, words-length, ap length (lent-rest (8 * (at + 1)) bytes), length-drop (8 * (at + 1)) bytes)
 
   -- they are the file's
-  rest-table : fileTable (length words) rest ≡ drop (suc k) (fileTable (length T) bytes)
+  rest-table : fileTable (length words) rest ≡ drop (suc at) (fileTable (length T) bytes)
   rest-table =
-      let n : k + 1 + (length T - (k + 1)) ≡ length T = omega arith in
-      ap₂ fileTable words-length (lent-rest (8 * (k + 1)) bytes) ∙ table-drop (k + 1) (length T - (k + 1)) bytes
-      ∙ ap₂ (λ (i j : ℕ). drop i (fileTable j bytes)) (add-one k) n
+      let n : at + 1 + (length T - (at + 1)) ≡ length T = omega arith in
+      ap₂ fileTable words-length (lent-rest (8 * (at + 1)) bytes) ∙ table-drop (at + 1) (length T - (at + 1)) bytes
+      ∙ ap₂ (λ (i j : ℕ). drop i (fileTable j bytes)) (add-one at) n
 
   pub decide-right : (ys : List ℕ) → ys ≡ fileTable (length words) rest
-      → replaced (set T k v) (k + 1) (length (set T k v) - (k + 1)) ys ≡ set (base (fileTable (length T) bytes) T k) k v
+      → replaced (set T at v) (at + 1) (length (set T at v) - (at + 1)) ys ≡ set (base (fileTable (length T) bytes) T at) at v
   unfolding replaced base
   decide-right ys unpacked =
       let F : List ℕ = fileTable (length T) bytes in
-      let front : take (k + 1) (set T k v) ≡ take k T ++ (v ∷ []) = ap (λ (i : ℕ). take i (set T k v)) (add-one k) ∙ take-suc-set T k v h in
-      let past : List ℕ = drop (k + 1) (set T k v) in
-      let n : ℕ = length (set T k v) - (k + 1) in
-      let none : drop n past ≡ [] = drop-of-length-le past {i = n} (omega (arith, length-drop (k + 1) (set T k v))) in
-      let file : ys ≡ drop (suc k) F = unpacked ∙ rest-table in
+      let front : take (at + 1) (set T at v) ≡ take at T ++ (v ∷ []) = ap (λ (i : ℕ). take i (set T at v)) (add-one at) ∙ take-suc-set T at v h in
+      let past : List ℕ = drop (at + 1) (set T at v) in
+      let n : ℕ = length (set T at v) - (at + 1) in
+      let none : drop n past ≡ [] = drop-of-length-le past {i = n} (omega (arith, length-drop (at + 1) (set T at v))) in
+      let file : ys ≡ drop (suc at) F = unpacked ∙ rest-table in
       rw (front, none, file) (
-      ap (λ (r : List ℕ). take k T ++ (v ∷ []) ++ r) (append-nil (drop (suc k) F)) ∙ append-snoc (take k T) v (drop (suc k) F)
-      ∙ sym (ap (λ (r : List ℕ). set (take k T ++ r) k v) (drop-cons F k 0 (omega (arith, table-length (length T) bytes)))
-      ∙ set-at (take k T) (word F k) (drop (suc k) F) v k (length-take-le k T (omega arith))))
+      ap (λ (r : List ℕ). take at T ++ (v ∷ []) ++ r) (append-nil (drop (suc at) F)) ∙ append-snoc (take at T) v (drop (suc at) F)
+      ∙ sym (ap (λ (r : List ℕ). set (take at T ++ r) at v) (drop-cons F at 0 (omega (arith, table-length (length T) bytes)))
+      ∙ set-at (take at T) (word F at) (drop (suc at) F) v at (length-take-le at T (omega arith))))
 
 -- ---- the current table becomes that of the decisions
 
@@ -147,45 +146,45 @@ module _ (m : ℕ) (R : List ℕ) (fits : 3 * m ≤ length R) where
 
 -- ---- back
 
-base-length : (F T : List ℕ) (k : ℕ) → k ≤ length T → length F ≡ length T → length (base F T k) ≡ length T
+base-length : (F T : List ℕ) (at : ℕ) → at ≤ length T → length F ≡ length T → length (base F T at) ≡ length T
 unfolding base
-base-length F T k h e = omega (arith, length-append (take k T) (drop k F), length-take-le k T h, length-drop k F)
+base-length F T at h e = omega (arith, length-append (take at T) (drop at F), length-take-le at T h, length-drop at F)
 
-module _ (m k v s : ℕ) (bytes R : List ℕ) (fits : 3 * m ≤ length R) (h : k < m) where
+module _ (m at v s : ℕ) (bytes R : List ℕ) (fits : 3 * m ≤ length R) (h : at < m) where
   -- the room once the values that are left are stored, and the decisions as they are lent of it
   abbrev left : List ℕ
-  left = set R (2 * m + k) (word R (2 * m + k) - s)
+  left = set R (2 * m + at) (word R (2 * m + at) - s)
 
   abbrev lent : List ℕ
   lent = take (2 * m - m) (drop m left)
 
   abbrev next : List ℕ
-  next = set (base (fileTable m bytes) (tableAt m 1 R) k) k s
+  next = set (base (fileTable m bytes) (tableAt m 1 R) at) at s
 
-  left-tables : Tables m left (tableAt m 0 R) (tableAt m 1 R) (set (tableAt m 2 R) k (word R (2 * m + k) - s)) (drop (3 * m) R)
-  left-tables = set-waiting m R _ _ _ _ (tables-of m R) k (word R (2 * m + k) - s) h
+  left-tables : Tables m left (tableAt m 0 R) (tableAt m 1 R) (set (tableAt m 2 R) at (word R (2 * m + at) - s)) (drop (3 * m) R)
+  left-tables = set-waiting m R _ _ _ _ (tables-of m R) at (word R (2 * m + at) - s) h
 
-  lent-next : set (base (fileTable (length lent) bytes) lent k) k s ≡ next
+  lent-next : set (base (fileTable (length lent) bytes) lent at) at s ≡ next
   lent-next =
       let e : lent ≡ tableAt m 1 R = lent-part m 1 m (2 * m - m) left (omega arith) (omega arith) ∙ left-tables .decided in
-      ap₂ (λ (n : ℕ) (t : List ℕ). set (base (fileTable n bytes) t k) k s) (ap length e ∙ tableAt-length m 1 R (omega arith) fits) e
+      ap₂ (λ (n : ℕ) (t : List ℕ). set (base (fileTable n bytes) t at) at s) (ap length e ∙ tableAt-length m 1 R (omega arith) fits) e
 
   next-length : length next ≡ m
   next-length =
       let F : List ℕ = fileTable m bytes in
       let l = tableAt-length m 1 R (omega arith) fits in
-      length-set (base F (tableAt m 1 R) k) k s ∙ base-length F (tableAt m 1 R) k (omega arith) (table-length m bytes ∙ sym l) ∙ l
+      length-set (base F (tableAt m 1 R) at) at s ∙ base-length F (tableAt m 1 R) at (omega arith) (table-length m bytes ∙ sym l) ∙ l
 
-  pub back-right : (dec U : List ℕ) → Lowest (word R (2 * m + k)) v → s ≡ 2 ^ v → dec ≡ set (base (fileTable (length lent) bytes) lent k) k s
+  pub back-right : (dec U : List ℕ) → Lowest (word R (2 * m + at)) v → s ≡ 2 ^ v → dec ≡ set (base (fileTable (length lent) bytes) lent at) at s
       → (let R₂ = replaced left m (2 * m - m) dec in Tables m U (tableAt m 1 R₂) (tableAt m 1 R₂) (tableAt m 2 R₂) (drop (3 * m) R₂))
-      → Back (fileTable m bytes) m k R U
+      → Back (fileTable m bytes) m at R U
   back-right dec U low power decided t =
-      let e : 2 * m + k ≡ m * 2 + k = omega arith in
-      let w : word R (2 * m + k) ≡ word (tableAt m 2 R) k = ap (word R) e ∙ sym (tableAt-word m 2 k R h) in
-      let p : word R (2 * m + k) - s ≡ word (tableAt m 2 R) k - 2 ^ v = ap₂ (λ (x y : ℕ). x - y) w power in
-      let B : List ℕ = base (fileTable m bytes) (tableAt m 1 R) k in
-      let q : dec ≡ set B k (2 ^ v) = decided ∙ lent-next ∙ ap (set B k) power in
-      let l = length-set R (2 * m + k) (word R (2 * m + k) - s) in
+      let e : 2 * m + at ≡ m * 2 + at = omega arith in
+      let w : word R (2 * m + at) ≡ word (tableAt m 2 R) at = ap (word R) e ∙ sym (tableAt-word m 2 at R h) in
+      let p : word R (2 * m + at) - s ≡ word (tableAt m 2 R) at - 2 ^ v = ap₂ (λ (x y : ℕ). x - y) w power in
+      let B : List ℕ = base (fileTable m bytes) (tableAt m 1 R) at in
+      let q : dec ≡ set B at (2 ^ v) = decided ∙ lent-next ∙ ap (set B at) power in
+      let l = length-set R (2 * m + at) (word R (2 * m + at) - s) in
       let u = lent-decided m left _ _ _ _ left-tables dec (omega arith) (ap length (decided ∙ lent-next) ∙ next-length) in
       record {
         value = v;
@@ -193,7 +192,7 @@ module _ (m k v s : ℕ) (bytes R : List ℕ) (fits : 3 * m ≤ length R) (h : k
         tables = record {
           current = t .current ∙ u .decided ∙ q;
           decided = t .decided ∙ u .decided ∙ q;
-          waiting = t .waiting ∙ u .waiting ∙ ap (set (tableAt m 2 R) k) p;
+          waiting = t .waiting ∙ u .waiting ∙ ap (set (tableAt m 2 R) at) p;
           beyond = t .beyond ∙ u .beyond;
         };
       }

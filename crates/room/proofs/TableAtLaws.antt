@@ -8,7 +8,7 @@ use native.Mathlib.Omega.{arith}
 use lib.ListN.{length, set, take, drop}
 use lib.Seq.{getD-take, getD-drop}
 use Rattle.model.specs.Words.{word}
-use Rattle.laws.proofs.PartLaws.{Outside, drop-after, other-block, set-outside, part-set, replaced, part-replaced, replaced-outside}
+use Rattle.laws.proofs.SliceLaws.{Outside, drop-after, other-block, set-outside, part-set, replaced, part-replaced, replaced-outside}
 use Rattle.laws.proofs.LayoutLaws.{part-length}
 use Rattle.room.specs.Tables.{tableAt, Tables}
 
@@ -45,11 +45,11 @@ outside-with m q a e R U t h l r o s = record {
   end = drop-after a e R U o (3 * m) (omega (arith, table-end m q h));
 }
 
--- word i of the room is word k of table q
-set-with : (m q k i v : ℕ) (R : List ℕ) → q < 3 → k < m → i ≡ m * q + k → With m q R (set R i v) (set (tableAt m q R) k v)
+-- word i of the room is word `at` of table q
+set-with : (m q at i v : ℕ) (R : List ℕ) → q < 3 → at < m → i ≡ m * q + at → With m q R (set R i v) (set (tableAt m q R) at v)
 unfolding tableAt
-set-with m q k i v R l h e = outside-with m q i (suc i) R (set R i v) _ l (omega arith) (omega arith) (set-outside R i v)
-    (ap (λ (j : ℕ). tableAt m q (set R j v)) e ∙ part-set (m * q) m k v R h)
+set-with m q at i v R l h e = outside-with m q i (suc i) R (set R i v) _ l (omega arith) (omega arith) (set-outside R i v)
+    (ap (λ (j : ℕ). tableAt m q (set R j v)) e ∙ part-set (m * q) m at v R h)
 
 -- table q begins at a and has n words
 lent-with : (m q a n : ℕ) (R ys : List ℕ) → q < 3 → a ≡ m * q → n ≡ m → 3 * m ≤ length R → length ys ≡ m → With m q R (replaced R a n ys) ys
@@ -83,16 +83,16 @@ module _ (m : ℕ) (R cur dec alt rest : List ℕ) (T : Tables m R cur dec alt r
     beyond = c .end ∙ T .beyond;
   }
 
-  -- word k of a table is stored
-  module _ (k v : ℕ) (h : k < m) where
-    pub set-current : Tables m (set R k v) (set cur k v) dec alt rest
-    set-current = with-current _ _ (rw (← T .current) (set-with m 0 k k v R (omega arith) h (omega arith)))
+  -- word `at` of a table is stored
+  module _ (at v : ℕ) (h : at < m) where
+    pub set-current : Tables m (set R at v) (set cur at v) dec alt rest
+    set-current = with-current _ _ (rw (← T .current) (set-with m 0 at at v R (omega arith) h (omega arith)))
 
-    pub set-decided : Tables m (set R (m + k) v) cur (set dec k v) alt rest
-    set-decided = with-decided _ _ (rw (← T .decided) (set-with m 1 k (m + k) v R (omega arith) h (omega arith)))
+    pub set-decided : Tables m (set R (m + at) v) cur (set dec at v) alt rest
+    set-decided = with-decided _ _ (rw (← T .decided) (set-with m 1 at (m + at) v R (omega arith) h (omega arith)))
 
-    pub set-waiting : Tables m (set R (2 * m + k) v) cur dec (set alt k v) rest
-    set-waiting = with-waiting _ _ (rw (← T .waiting) (set-with m 2 k (2 * m + k) v R (omega arith) h (omega arith)))
+    pub set-waiting : Tables m (set R (2 * m + at) v) cur dec (set alt at v) rest
+    set-waiting = with-waiting _ _ (rw (← T .waiting) (set-with m 2 at (2 * m + at) v R (omega arith) h (omega arith)))
 
   -- a table was lent, and has come back as ys
   module _ (ys : List ℕ) (fits : 3 * m ≤ length R) (size : length ys ≡ m) where

@@ -9,7 +9,7 @@ ghost use lib.ListN.{length, set, replicate, drop};
 ghost use Rattle.model.specs.Words.{word};
 ghost use Rattle.model.specs.Layout.{little};
 ghost use Rattle.model.specs.Reading.{pieces};
-ghost use Rattle.laws.proofs.LoopLaws.{base};
+ghost use Rattle.laws.specs.Traversal.{base};
 ghost use Rattle.room.specs.Tables.{tableAt, Tables, Down, Back, First, Last};
 
 // Every word becomes 0.
@@ -67,35 +67,35 @@ pub fn branch(table: &[u64]) -> usize
 pub fn waiting(table: &[u64]) -> usize
     ensures { λ r. ⌜ Last (now (table .entry)) r ⌝ }
 {
-    let mut k = table.len();
-    while k > 0 {
-        if table[k - 1] != 0 {
-            return k;
+    let mut at = table.len();
+    while at > 0 {
+        if table[at - 1] != 0 {
+            return at;
         }
-        k -= 1;
+        at -= 1;
     }
     0
 }
 
-// Down: at word k the lowest value is taken, and the others wait.
-pub fn down(room: &mut [u64], m: usize, k: usize)
-    requires { ⌜ (3 * m ≤ length (now room)) × (k < m) × (0 < word (now room) k) ⌝ }
-    ensures { λ r. ⌜ Down m k (now (room .entry)) (now (room .exit)) ⌝ }
+// Down: the lowest value of word `at` is taken, and the others wait.
+pub fn down(room: &mut [u64], m: usize, at: usize)
+    requires { ⌜ (3 * m ≤ length (now room)) × (at < m) × (0 < word (now room) at) ⌝ }
+    ensures { λ r. ⌜ Down m at (now (room .entry)) (now (room .exit)) ⌝ }
 {
-    let w = room[k];
-    let v = words::single(words::lowest(w));
-    room[k] = v;
-    room[m + k] = v;
-    room[2 * m + k] = w - v; // the others wait
+    let w = room[at];
+    let v = words::singleton(words::lowest(w));
+    room[at] = v;
+    room[m + at] = v;
+    room[2 * m + at] = w - v; // the others wait
 }
 
-// Word k of the decisions becomes v, and those past it are the file's again.
-fn decide(bytes: &[u8], table: &mut [u64], k: usize, v: u64)
-    requires { ⌜ (length (now bytes) ≡ 8 * length (now table)) × (k < length (now table)) ⌝ }
-    ensures { λ r. ⌜ now (table .exit) ≡ set (base (map little (pieces (length (now (table .entry))) 8 (now (bytes .entry)))) (now (table .entry)) k) k v ⌝ }
+// Word `at` of the decisions becomes v, and those past it are the file's again.
+fn decide(bytes: &[u8], table: &mut [u64], at: usize, v: u64)
+    requires { ⌜ (length (now bytes) ≡ 8 * length (now table)) × (at < length (now table)) ⌝ }
+    ensures { λ r. ⌜ now (table .exit) ≡ set (base (map little (pieces (length (now (table .entry))) 8 (now (bytes .entry)))) (now (table .entry)) at) at v ⌝ }
 {
-    table[k] = v;
-    tables::unpack(&bytes[8 * (k + 1)..], &mut table[k + 1..]);
+    table[at] = v;
+    tables::unpack(&bytes[8 * (at + 1)..], &mut table[at + 1..]);
 }
 
 // The current table becomes that of the decisions.
@@ -111,14 +111,14 @@ fn resume(room: &mut [u64], m: usize)
     }
 }
 
-// Back: at word k the lowest value that waits is taken, and what was decided past k is the file's again.
-pub fn back(bytes: &[u8], room: &mut [u64], m: usize, k: usize)
-    requires { ⌜ (length (now bytes) ≡ 8 * m) × (3 * m ≤ length (now room)) × (k < m) × (0 < word (now room) (2 * m + k)) ⌝ }
-    ensures { λ r. ⌜ Back (map little (pieces m 8 (now (bytes .entry)))) m k (now (room .entry)) (now (room .exit)) ⌝ }
+// Back: the lowest value that waits at word `at` is taken, and what was decided past it is the file's again.
+pub fn back(bytes: &[u8], room: &mut [u64], m: usize, at: usize)
+    requires { ⌜ (length (now bytes) ≡ 8 * m) × (3 * m ≤ length (now room)) × (at < m) × (0 < word (now room) (2 * m + at)) ⌝ }
+    ensures { λ r. ⌜ Back (map little (pieces m 8 (now (bytes .entry)))) m at (now (room .entry)) (now (room .exit)) ⌝ }
 {
-    let w = room[2 * m + k];
-    let v = words::single(words::lowest(w));
-    room[2 * m + k] = w - v;
-    decide(bytes, &mut room[m..2 * m], k, v);
+    let w = room[2 * m + at];
+    let v = words::singleton(words::lowest(w));
+    room[2 * m + at] = w - v; // one value less waits
+    decide(bytes, &mut room[m..2 * m], at, v);
     resume(room, m);
 }

@@ -13,16 +13,18 @@ use Rattle.model.specs.Words.{size}
 use Rattle.model.specs.Constraints.{Problem, Constraint, always, width}
 use Rattle.model.specs.Support.{struck}
 use Rattle.model.specs.Rounds.{steps, run, round, Settled, after, settling, settled}
+use Rattle.laws.specs.Inclusion.{Below}
+use Rattle.laws.specs.Lent.{lendable}
 use Rattle.laws.proofs.ListLaws.{from-length, from-getD}
-use Rattle.laws.proofs.TableLaws.{Below, below-of-eq, below-trans, size-most, struck-size}
+use Rattle.laws.proofs.TableLaws.{below-of-eq, below-trans, size-most, struck-size}
 use Rattle.laws.proofs.RoundLaws.{run-below, run-append, after-cases, settling-step}
-use Rattle.laws.proofs.CallLaws.{lendable, lendable-length, lendable-below}
+use Rattle.laws.proofs.CallLaws.{lendable-length, lendable-below}
 use Rattle.layout.specs.declared.Parts.{Parts}
 use Rattle.format.specs.Accepting.{problemIn}
 use Rattle.format.proofs.ContentLaws.{Counts}
 use Rattle.steps.specs.Step.{Step}
 use Rattle.list.specs.Listing.{Ran}
-use Rattle.list.proofs.WalkLaws.{Walked, walk-step, walk-lent, ran-walk}
+use Rattle.list.proofs.StepWalkLaws.{Walked, walk-step, walk-lent, ran-walk}
 
 module _ (P : Problem) where
   -- the steps of the first walk: trimming each string

@@ -11,10 +11,10 @@ use borrow.Author.Count.{below-more}
 use Rattle.model.specs.Words.{bit, bits, word, Words}
 use Rattle.model.specs.Constraints.{Problem, width}
 use Rattle.model.specs.Solutions.{WellFormed}
-use Rattle.model.specs.Rounds.{alive}
+use Rattle.model.specs.Rounds.{everyValue}
+use Rattle.laws.specs.Lent.{Stable}
 use Rattle.laws.proofs.WordLaws.{zero-bit}
-use Rattle.laws.proofs.RoundLaws.{Stable}
-use Rattle.laws.proofs.NodeLaws.{words-alive, alive-lengths, alive-numbers}
+use Rattle.laws.proofs.NodeLaws.{words-every-value, every-value-lengths, every-value-numbers}
 use Rattle.rows.proofs.TrimLaws.{some-bit}
 
 -- the words of T at f a to f (n - 1) are not 0; where one of them was read, it is known that all words of T have 64 bits
@@ -46,25 +46,25 @@ module _ (T : List ℕ) (bd : Words T) (s : ℕ) (P : Problem) (wf : WellFormed 
   has-bit i l = (getD (bits (word T i)) 0 0, some-bit (word T i) (bd i) l)
 
   -- every word that was looked at has a bit
-  pub every-alive : Nonzero T (λ x. 64 * x) 0 s → Nonzero T (λ i. i) (64 * s) (length T) → true ≡ alive P T
-  every-alive f g =
-      sym (words-alive P wf T bd ln st (λ x l. has-bit (64 * x) (f .some x (omega arith) (omega arith)))
+  pub every-valued : Nonzero T (λ x. 64 * x) 0 s → Nonzero T (λ i. i) (64 * s) (length T) → true ≡ everyValue P T
+  every-valued f g =
+      sym (words-every-value P wf T bd ln st (λ x l. has-bit (64 * x) (f .some x (omega arith) (omega arith)))
       (λ n l. has-bit (64 * P .strings + n) (g .some (64 * P .strings + n) (omega arith) (omega arith))))
 
-  not-alive : (i : ℕ) → word T i ≡ 0 → (alive P T ≡ true → (b : ℕ) × (bit (word T i) b ≡ true)) → false ≡ alive P T
-  not-alive i e f = go (alive P T) refl
+  not-every-value : (i : ℕ) → word T i ≡ 0 → (everyValue P T ≡ true → (b : ℕ) × (bit (word T i) b ≡ true)) → false ≡ everyValue P T
+  not-every-value i e f = go (everyValue P T) refl
     where
-      go : (t : Bool) → alive P T ≡ t → false ≡ t
+      go : (t : Bool) → everyValue P T ≡ t → false ≡ t
       go false q = refl
       go true q = let h = f q in absurd (false≢true (sym (zero-bit (h .0)) ∙ ap (λ (w : ℕ). bit w (h .0)) (sym e) ∙ h .1))
 
   -- a length word is 0
-  pub no-length : (x : ℕ) → x < s → word T (64 * x) ≡ 0 → false ≡ alive P T
-  no-length x l e = not-alive (64 * x) e (λ a. alive-lengths P wf T bd ln st a x (omega arith))
+  pub no-length : (x : ℕ) → x < s → word T (64 * x) ≡ 0 → false ≡ everyValue P T
+  no-length x l e = not-every-value (64 * x) e (λ a. every-value-lengths P wf T bd ln st a x (omega arith))
 
   -- a number word is 0
-  pub no-number : (i : ℕ) → 64 * s ≤ i → i < length T → word T i ≡ 0 → false ≡ alive P T
+  pub no-number : (i : ℕ) → 64 * s ≤ i → i < length T → word T i ≡ 0 → false ≡ everyValue P T
   no-number i m l e =
       let n : ℕ = i - 64 * P .strings in
       let q : 64 * P .strings + n ≡ i = omega arith in
-      not-alive i e (λ a. subst (λ (k : ℕ). (b : ℕ) × (bit (word T k) b ≡ true)) q (alive-numbers P wf T bd ln st a n (omega arith)))
+      not-every-value i e (λ a. subst (λ (k : ℕ). (b : ℕ) × (bit (word T k) b ≡ true)) q (every-value-numbers P wf T bd ln st a n (omega arith)))

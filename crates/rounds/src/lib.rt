@@ -7,9 +7,8 @@ ghost use Prim.Native.Nat.{_*_, _≤_};
 ghost use lib.ListN.{length};
 ghost use Rattle.model.specs.Constraints.{Problem, width};
 ghost use Rattle.model.specs.Solutions.{WellFormed};
-ghost use Rattle.model.specs.Rounds.{alive, settling, settled};
-ghost use Rattle.laws.proofs.RoundLaws.{Stable};
-ghost use Rattle.laws.proofs.CallLaws.{lendable};
+ghost use Rattle.model.specs.Rounds.{everyValue, settling, settled};
+ghost use Rattle.laws.specs.Lent.{Stable, lendable};
 ghost use Rattle.format.specs.Accepting.{problemIn, Usable};
 
 // How many rounds there are, the last included. A variable that has lost its last value does not end them.
@@ -25,7 +24,7 @@ pub fn settle(file: &[u8], p: layout::Parts, table: &mut [u64]) -> u32
         for x in 0..p.s {
             struck += steps::trim(table, x);
         }
-        struck += list::all(constraints, file, p, table);
+        struck += list::own_steps(constraints, file, p, table);
         if struck == 0 {
             break n;
         }
@@ -38,7 +37,7 @@ pub fn settle(file: &[u8], p: layout::Parts, table: &mut [u64]) -> u32
 pub fn every_value(table: &[u64], s: usize) -> bool
     requires { ⌜ 64 * s ≤ length (now table) ⌝ }
     ensures { λ r. ⌜ ((P : Problem) → WellFormed P → s ≡ P .strings → length (now (table .entry)) ≡ width P → Stable P (now (table .entry))
-        → r ≡ alive P (now (table .entry))) ⌝ }
+        → r ≡ everyValue P (now (table .entry))) ⌝ }
 {
     for x in 0..s {
         if table[64 * x] == 0 {

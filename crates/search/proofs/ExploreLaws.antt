@@ -9,7 +9,7 @@ use Rattle.model.specs.Layout.{Bytes, little}
 use Rattle.model.specs.Reading.{pieces}
 use Rattle.model.specs.Constraints.{Problem, width}
 use Rattle.model.specs.Tree.{Search, searching, found, none, spent}
-use Rattle.laws.proofs.SearchLaws.{visit}
+use Rattle.laws.specs.Traversal.{visit}
 use Rattle.laws.proofs.CallLaws.{lendable-length}
 use Rattle.laws.proofs.StackLaws.{stack-start, stack-begin, stack-spent}
 use Rattle.layout.specs.declared.Parts.{Parts}

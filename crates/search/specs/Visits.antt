@@ -6,11 +6,8 @@ use lib.ListN.{drop}
 use Rattle.model.specs.Words.{word}
 use Rattle.model.specs.Constraints.{width}
 use Rattle.model.specs.Tree.{found, none}
-use Rattle.laws.proofs.BitsLaws.{Single}
-use Rattle.laws.proofs.BranchLaws.{At}
-use Rattle.laws.proofs.SearchLaws.{visit}
-use Rattle.laws.proofs.LoopLaws.{left}
-use Rattle.laws.proofs.StackLaws.{Stack, Moved}
+use Rattle.laws.specs.Inclusion.{Single}
+use Rattle.laws.specs.Traversal.{At, visit, left, Stack, Moved}
 use Rattle.layout.specs.declared.Parts.{Parts}
 use Rattle.format.specs.Accepting.{problemIn, tableIn}
 use Rattle.room.specs.Tables.{tableAt, Down, Back}
@@ -18,14 +15,14 @@ use Rattle.search.specs.declared.Visited.{Visited}
 use Rattle.search.specs.declared.Visited.the-variants.{Solved, Over, On}
 
 -- what a node with a value for every variable leads to: no word has several values, or the room is moved down at the first that has
-pub data Descends (m : ℕ) (R U : List ℕ) : Visited → Type 0 where
-  nothing-open : U ≡ R → ((j : ℕ) → j < m → Single (word (tableAt m 0 R) j)) → Descends m R U Solved
-  downwards : (k : ℕ) → At (tableAt m 0 R) k → Down m k R U → Descends m R U On
+pub data GoesDown (m : ℕ) (R U : List ℕ) : Visited → Type 0 where
+  nothing-open : U ≡ R → ((j : ℕ) → j < m → Single (word (tableAt m 0 R) j)) → GoesDown m R U Solved
+  downwards : (at : ℕ) → At (tableAt m 0 R) at → Down m at R U → GoesDown m R U On
 
 -- what a dead node leads to: nothing waits, or the room is moved back to the last word at which a value waits
-pub data Retreats (F : List ℕ) (m : ℕ) (R U : List ℕ) : Visited → Type 0 where
-  nothing-waits : U ≡ R → ((j : ℕ) → j < m → word (tableAt m 2 R) j ≡ 0) → Retreats F m R U Over
-  backwards : (k : ℕ) → k < m → ((j : ℕ) → k < j → j < m → word (tableAt m 2 R) j ≡ 0) → Back F m k R U → Retreats F m R U On
+pub data GoesBack (F : List ℕ) (m : ℕ) (R U : List ℕ) : Visited → Type 0 where
+  nothing-waits : U ≡ R → ((j : ℕ) → j < m → word (tableAt m 2 R) j ≡ 0) → GoesBack F m R U Over
+  backwards : (at : ℕ) → at < m → ((j : ℕ) → at < j → j < m → word (tableAt m 2 R) j ≡ 0) → Back F m at R U → GoesBack F m R U On
 
 -- the words of a table of these parts
 abbrev pub wordsIn : Parts → ℕ

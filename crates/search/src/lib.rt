@@ -8,9 +8,9 @@ ghost use lib.ListN.{length, replicate, drop};
 ghost use Rattle.model.specs.Layout.{little};
 ghost use Rattle.model.specs.Reading.{pieces};
 ghost use Rattle.model.specs.Tree.{searching};
-ghost use Rattle.laws.proofs.SearchLaws.{visit};
+ghost use Rattle.laws.specs.Traversal.{visit};
 ghost use Rattle.format.specs.Accepting.{problemIn, tableIn, Usable};
-ghost use Rattle.search.specs.Visits.{wordsIn, StackIn, leftIn, Descends, Retreats, Visits};
+ghost use Rattle.search.specs.Visits.{wordsIn, StackIn, leftIn, GoesDown, GoesBack, Visits};
 ghost use Rattle.search.specs.Outcomes.{outcomeOf};
 
 // How a search ends, with the nodes that it visited.
@@ -28,28 +28,28 @@ enum Visited {
 }
 
 // A node at which every variable has a value: it is solved, or its first child is next.
-fn descend(room: &mut [u64], m: usize) -> Visited
+fn go_down(room: &mut [u64], m: usize) -> Visited
     requires { ⌜ 3 * m ≤ length (now room) ⌝ }
-    ensures { λ r. ⌜ Descends m (now (room .entry)) (now (room .exit)) r ⌝ }
+    ensures { λ r. ⌜ GoesDown m (now (room .entry)) (now (room .exit)) r ⌝ }
 {
-    let k = room::branch(&room[..m]);
-    if k == m {
+    let at = room::branch(&room[..m]);
+    if at == m {
         return Visited::Solved;
     }
-    room::down(room, m, k);
+    room::down(room, m, at);
     Visited::On
 }
 
 // A dead node: of the values that wait the lowest at the last such word is next, where there is one.
-fn retreat(bytes: &[u8], room: &mut [u64], m: usize) -> Visited
+fn go_back(bytes: &[u8], room: &mut [u64], m: usize) -> Visited
     requires { ⌜ (length (now bytes) ≡ 8 * m) × (3 * m ≤ length (now room)) ⌝ }
-    ensures { λ r. ⌜ Retreats (map little (pieces m 8 (now (bytes .entry)))) m (now (room .entry)) (now (room .exit)) r ⌝ }
+    ensures { λ r. ⌜ GoesBack (map little (pieces m 8 (now (bytes .entry)))) m (now (room .entry)) (now (room .exit)) r ⌝ }
 {
-    let k = room::waiting(&room[2 * m..3 * m]);
-    if k == 0 {
+    let at = room::waiting(&room[2 * m..3 * m]);
+    if at == 0 {
         return Visited::Over;
     }
-    room::back(bytes, room, m, k - 1);
+    room::back(bytes, room, m, at - 1);
     Visited::On
 }
 
@@ -61,10 +61,10 @@ fn visit(file: &[u8], p: layout::Parts, room: &mut [u64]) -> Visited
     let m = 64 * p.s + p.t;
     rounds::settle(file, p, &mut room[..m]);
     if rounds::every_value(&room[..m], p.s) {
-        return descend(room, m);
+        return go_down(room, m);
     }
     let end = p.constraints_at;
-    retreat(&file[..end], room, m)
+    go_back(&file[..end], room, m)
 }
 
 // Visits nodes until one is solved, none is left, or as many as the budget are visited.

@@ -15,7 +15,7 @@ use Rattle.model.specs.Support.{narrowed}
 use Rattle.model.specs.Rounds.{variablesOf}
 use Rattle.rows.specs.Rows.{alone}
 use Rattle.rows.proofs.Alone.{rows-narrowed, one-word}
-use Rattle.laws.proofs.RowLaws.{InRow}
+use Rattle.laws.specs.Supported.{InRow}
 use Rattle.sub.specs.Substrings.{Part, Supported}
 
 -- a string of each row and a value of the word, and the three meet the test

@@ -14,9 +14,10 @@ use Rattle.rows.specs.Rows.{trimmed, met}
 use Rattle.rows.specs.Parts.{Overlay, Window}
 use Rattle.rows.proofs.TrimLaws.{trimmed-supports}
 use Rattle.rows.proofs.MeetLaws.{and-bit, of-and-bit, in-met, of-met, met-length, met-words}
+use Rattle.laws.specs.Supported.{InRow, Supports}
 use Rattle.laws.proofs.ShiftLaws.{bit-shr, bit-mask, of-shifted, in-shifted}
-use Rattle.laws.proofs.RowLaws.{InRow, short-of}
-use Rattle.laws.proofs.Supports.{Supports, moved-support}
+use Rattle.laws.proofs.RowLaws.{short-of}
+use Rattle.laws.proofs.Supports.{moved-support}
 use Rattle.sub.specs.Substrings.{Holds, Fitting}
 
 -- ---- a word without its bits below n

@@ -14,10 +14,10 @@ use Rattle.model.specs.Solutions.{textBit}
 use Rattle.words.specs.Ends.{Lowest}
 use Rattle.rows.proofs.Fill.{tabulated-length, tabulated-word}
 use Rattle.rows.proofs.TrimLaws.{made}
+use Rattle.laws.specs.Supported.{InRow, Supports}
 use Rattle.laws.proofs.ListLaws.{and-true}
 use Rattle.laws.proofs.WordLaws.{pow-self, pow-only}
-use Rattle.laws.proofs.RowLaws.{InRow}
-use Rattle.laws.proofs.Supports.{Supports, moved-support}
+use Rattle.laws.proofs.Supports.{moved-support}
 use Rattle.sub.specs.Substrings.{reachOf, Holds, Fitting, Longest, Part, PartAt, Supported}
 use Rattle.rows.proofs.ChoiceLaws.{some-choice, no-choice}
 use Rattle.sub.proofs.ReachLaws.{reach-end, reach-some, reach-mono}

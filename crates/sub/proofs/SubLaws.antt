@@ -16,10 +16,10 @@ use Rattle.model.specs.Solutions.{textBit}
 use Rattle.model.specs.Support.{narrowed}
 use Rattle.rows.specs.Rows.{alone, joined, trimmed, stored}
 use Rattle.rows.proofs.MeetLaws.{joined-or}
+use Rattle.laws.specs.Supported.{InRow, Supports, OfKinds}
 use Rattle.laws.proofs.ListLaws.{and-true, true-and, same-true, same-refl}
 use Rattle.laws.proofs.WordLaws.{zero-bit}
-use Rattle.laws.proofs.RowLaws.{InRow}
-use Rattle.laws.proofs.Supports.{Supports, OfKinds, moved-support, none-support, next-kind, skip-kind, or-one}
+use Rattle.laws.proofs.Supports.{moved-support, none-support, next-kind, skip-kind, or-one}
 use Rattle.sub.specs.Substrings.{reachOf, Part, PartAt, Supported}
 use Rattle.sub.proofs.PartRows.{Met, part-narrowed}
 use Rattle.sub.proofs.ReachLaws.{reach-end, reach-test}

@@ -11,7 +11,8 @@ use Rattle.model.specs.Words.{word, Words}
 use Rattle.words.specs.Ends.{Highest}
 use Rattle.rows.specs.Rows.{trimmed}
 use Rattle.rows.proofs.TrimLaws.{trimmed-supports, in-trimmed}
-use Rattle.laws.proofs.RowLaws.{InRow, used-length}
+use Rattle.laws.specs.Supported.{InRow}
+use Rattle.laws.proofs.RowLaws.{used-length}
 use Rattle.sub.specs.Substrings.{Longest}
 
 module _ (r : List ℕ) (ln : length r ≡ 64) (bd : Words r) where

@@ -6,8 +6,7 @@ use Prim.Native.Nat.{ℕ, zero, suc, _+_, _^_, _≤_, _<_}
 use lib.ListN.{length, getD}
 use Rattle.model.specs.Words.{bit, word}
 use Rattle.model.specs.Solutions.{textBit}
-use Rattle.laws.proofs.RowLaws.{InRow}
-use Rattle.laws.proofs.Supports.{Supports}
+use Rattle.laws.specs.Supported.{InRow, Supports}
 
 -- "N + m - 1 ≤ |X|. An empty Y is met at N from 1 to |X|": the least length of an X in which a part of m symbols starts after off symbols
 unfoldable pub reachOf : ℕ → ℕ → ℕ

@@ -11,7 +11,7 @@ ghost use Rattle.model.specs.Words.{bit, word};
 ghost use Rattle.model.specs.Constraints.{sub};
 ghost use Rattle.model.specs.Solutions.{textBit};
 ghost use Rattle.model.specs.Support.{narrowed};
-ghost use Rattle.laws.proofs.Supports.{Supports, OfKinds};
+ghost use Rattle.laws.specs.Supported.{Supports, OfKinds};
 ghost use Rattle.words.specs.Ends.{Lowest};
 ghost use Rattle.rows.specs.Rows.{alone, joined};
 ghost use Rattle.sub.specs.Substrings.{reachOf, Holds, Fitting, PartAt, Longest, Supported};
@@ -95,7 +95,7 @@ fn part_at(x: [u64; 64], y: [u64; 64], n: u64, off: usize, least: usize, top: us
     Rows {
         x: a,
         y: b,
-        n: words::single(off + 1),
+        n: words::singleton(off + 1),
     }
 }
 

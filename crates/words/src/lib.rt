@@ -84,7 +84,7 @@ pub fn has(w: u64, i: usize) -> bool
 }
 
 // The word with bit i alone.
-pub fn single(i: usize) -> u64
+pub fn singleton(i: usize) -> u64
     requires { ⌜ i < 64 ⌝ }
     ensures { λ r. ⌜ r ≡ 2 ^ i ⌝ }
 {
@@ -137,5 +137,5 @@ pub fn several(w: u64) -> bool
     if w == 0 {
         return false;
     }
-    w != single(lowest(w))
+    w != singleton(lowest(w))
 }

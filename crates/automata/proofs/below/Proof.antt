@@ -6,19 +6,19 @@ use Rattle.automata.proofs.below.Statement.{statement}
 use Rattle.automata.proofs.below.Tie as tie
 use Rattle.automata.proofs.below.Reads as reads
 use Rattle.automata.proofs.below.Lts as lts
-use Rattle.words.proofs.single.Reads as single-reads
+use Rattle.words.proofs.singleton.Reads as singleton-reads
 
-single-requires : tie.Need-single-requires
-single-requires c κs = search needs
+singleton-requires : tie.Need-singleton-requires
+singleton-requires c κs = search needs
 
 sub-result : tie.Need-sub-result
-sub-result c = omega (arith, c .single .ensures, pow-pos (c .before .before .args .n))
+sub-result c = omega (arith, c .singleton .ensures, pow-pos (c .before .before .args .n))
 
 returns : tie.Need-returns
-returns c = low-mask _ _ _ (c .single .ensures)
+returns c = low-mask _ _ _ (c .singleton .ensures)
 
 returns-2 : tie.Need-returns-2
 returns-2 c = low-all _ _ (search needs) (search needs) (search needs)
 
 pub below-spec : {M : Type 1} → statement M
-below-spec = tie.close (tie.spec single-requires sub-result returns returns-2)
+below-spec = tie.close (tie.spec singleton-requires sub-result returns returns-2)

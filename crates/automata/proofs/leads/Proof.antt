@@ -13,7 +13,7 @@ use Rattle.automata.proofs.next.Reads as next-reads
 use Rattle.automata.proofs.states.Reads as states-reads
 use Rattle.words.proofs.has.Reads as has-reads
 use Rattle.words.proofs.lowest.Reads as lowest-reads
-use Rattle.words.proofs.single.Reads as single-reads
+use Rattle.words.proofs.singleton.Reads as singleton-reads
 
 abbrev Inv-loop : tie.InvT-loop
 Inv-loop d k from into a rest₀ rest = Walked (stateCount d) from (λ i t. Hit from into (λ p. move (machine k d) p a) i) rest 0
@@ -45,20 +45,20 @@ returns c =
     let e = sym (c .before .has .ensures) ∙ c .if1 .taken in
     hit-one _ _ _ _ _ (l .before .before .loop .inv) _ _ (l .lowest .ensures) (c .before .before .next .ensures .0) e
 
-single-requires : tie.Need-single-requires Inv-loop μ-loop
-single-requires c κs = search needs
+singleton-requires : tie.Need-singleton-requires Inv-loop μ-loop
+singleton-requires c κs = search needs
 
 sub-rest : tie.Need-sub-rest Inv-loop μ-loop
-sub-rest c = lowest-off _ _ _ (c .before .before .before .before .lowest .ensures) (c .single .ensures) .0
+sub-rest c = lowest-off _ _ _ (c .before .before .before .before .lowest .ensures) (c .singleton .ensures) .0
 
 loop-less : tie.Need-loop-less Inv-loop μ-loop
-loop-less c = lowest-off _ _ _ (c .before .before .before .before .lowest .ensures) (c .single .ensures) .1
+loop-less c = lowest-off _ _ _ (c .before .before .before .before .lowest .ensures) (c .singleton .ensures) .1
 
 loop-again : tie.Need-loop-again Inv-loop μ-loop
 loop-again c =
     let l = c .before .before .before .before in
     let e = sym (c .before .before .has .ensures) ∙ c .before .if1 .left in
-    hit-skip _ _ _ _ _ (l .before .before .loop .inv) _ _ (l .lowest .ensures) (c .before .before .before .next .ensures .0) _ (c .single .ensures) e
+    hit-skip _ _ _ _ _ (l .before .before .loop .inv) _ _ (l .lowest .ensures) (c .before .before .before .next .ensures .0) _ (c .singleton .ensures) e
 
 returns-2 : tie.Need-returns-2 Inv-loop μ-loop
 returns-2 c = let e : c .before .loop .rest ≡ 0 = omega arith in hit-none _ _ _ _ _ (c .before .loop .inv) e
@@ -76,7 +76,7 @@ leads-spec =
     next-requires
     has-requires
     returns
-    single-requires
+    singleton-requires
     sub-rest
     loop-less
     loop-again

@@ -3,7 +3,7 @@ use mathlib.Core.Logic.{⊎-elim}
 use Prim.Native.Nat.{_-_, _≤_}
 use native.Mathlib.Omega.{arith}
 use Rattle.automata.specs.Machine.{stateCount, machine}
-use Rattle.automata.specs.Sets.{Gathered}
+use Rattle.automata.specs.StateSets.{Gathered}
 use Rattle.automata.proofs.SetLaws.{Entering, gathered-none, gathered-upto, predecessors-skip, predecessors-add, predecessors-end}
 use borrow.Author.Needs.{needs}
 use Rattle.automata.proofs.predecessors.Statement.{statement}

@@ -11,7 +11,7 @@ use Rattle.automata.proofs.below.Reads as below-reads
 use Rattle.automata.proofs.moves.Reads as moves-reads
 use Rattle.automata.proofs.states.Reads as states-reads
 use Rattle.words.proofs.lowest.Reads as lowest-reads
-use Rattle.words.proofs.single.Reads as single-reads
+use Rattle.words.proofs.singleton.Reads as singleton-reads
 
 abbrev Inv-loop : tie.InvT-loop
 Inv-loop d k set symbols rest₀ r₀ rest r = Walked (stateCount d) set (ByState (machine k d) k set symbols) rest r
@@ -34,19 +34,19 @@ lowest-requires c κs = search needs
 moves-requires : tie.Need-moves-requires Inv-loop μ-loop
 moves-requires c κs = (search needs, search needs, walked-next _ _ _ _ _ _ (c .before .before .loop .inv) (c .lowest .ensures))
 
-single-requires : tie.Need-single-requires Inv-loop μ-loop
-single-requires c κs = search needs
+singleton-requires : tie.Need-singleton-requires Inv-loop μ-loop
+singleton-requires c κs = search needs
 
 sub-rest : tie.Need-sub-rest Inv-loop μ-loop
-sub-rest c = lowest-off _ _ _ (c .before .before .lowest .ensures) (c .single .ensures) .0
+sub-rest c = lowest-off _ _ _ (c .before .before .lowest .ensures) (c .singleton .ensures) .0
 
 loop-less : tie.Need-loop-less Inv-loop μ-loop
-loop-less c = lowest-off _ _ _ (c .before .before .lowest .ensures) (c .single .ensures) .1
+loop-less c = lowest-off _ _ _ (c .before .before .lowest .ensures) (c .singleton .ensures) .1
 
 loop-again : tie.Need-loop-again Inv-loop μ-loop
 loop-again c =
     let l = c .before .before in
-    successors-add _ _ _ _ _ _ _ _ _ _ (l .before .before .loop .inv) (l .lowest .ensures) (c .single .ensures) (c .before .moves .ensures)
+    successors-add _ _ _ _ _ _ _ _ _ _ (l .before .before .loop .inv) (l .lowest .ensures) (c .singleton .ensures) (c .before .moves .ensures)
 
 returns : tie.Need-returns Inv-loop μ-loop
 returns c = let e : c .before .loop .rest ≡ 0 = omega arith in successors-end _ _ _ _ _ _ (walked-end _ _ _ _ _ e (c .before .loop .inv))
@@ -62,7 +62,7 @@ successors-spec =
     loop-holds
     lowest-requires
     moves-requires
-    single-requires
+    singleton-requires
     sub-rest
     loop-less
     loop-again

@@ -5,7 +5,7 @@ use native.Mathlib.Omega.{arith}
 use native.Mathlib.Numerals.{add-one}
 use Rattle.model.specs.Words.{word}
 use Rattle.rows.proofs.Fill.{array-words}
-use Rattle.laws.proofs.Supports.{OfKinds}
+use Rattle.laws.specs.Supported.{OfKinds}
 use Rattle.cat.specs.Splits.{Split, Supported}
 use Rattle.cat.proofs.CatLaws.{splits-start, splits-next, splits-skip, cat-narrowed}
 use borrow.Author.Needs.{needs}

@@ -14,7 +14,7 @@ use Rattle.cat.proofs.nothing.Reads as nothing-reads
 use Rattle.cat.proofs.whole.Reads as whole-reads
 use Rattle.rows.proofs.trim.Reads as trim-reads
 use Rattle.rows.proofs.window.Reads as window-reads
-use Rattle.words.proofs.single.Reads as single-reads
+use Rattle.words.proofs.singleton.Reads as singleton-reads
 
 array-read-lengths : tie.Need-array-read-lengths
 array-read-lengths c = search needs
@@ -52,8 +52,8 @@ returns c =
     none-supported _ (split-empty x (s .args .t2) z (s .args .p) (search needs) (array-words z (λ i. search needs)) allowed (whole .result) (array-words (whole .result) (λ i. search needs)) (whole .ensures) empty)
     _ _ _ (n .0) (n .1) (n .2)
 
-single-requires : tie.Need-single-requires
-single-requires c κs = search needs
+singleton-requires : tie.Need-singleton-requires
+singleton-requires c κs = search needs
 
 window-requires : tie.Need-window-requires
 window-requires c κs = search needs
@@ -80,7 +80,7 @@ returns-2 c =
     let allowed = s .pre .1 in
     split-supported x (s .args .t2) z (s .args .p) (search needs) (array-words z (λ i. search needs)) allowed (whole .result) (array-words (whole .result) (λ i. search needs)) (whole .ensures)
     (trim .result) (c .before .window .result) (c .window2 .result) (trim .ensures) (array-words (trim .result) (λ i. search needs)) (search needs)
-    (rw (c .before .before .single .ensures) at (c .before .window .ensures)) (c .window2 .ensures)
+    (rw (c .before .before .singleton .ensures) at (c .before .window .ensures)) (c .window2 .ensures)
 
 pub split-spec : {M : Type 1} → statement M
 split-spec =
@@ -95,7 +95,7 @@ split-spec =
     array-read-if1
     nothing-requires
     returns
-    single-requires
+    singleton-requires
     window-requires
     array-read-window
     shr-window

@@ -2,7 +2,7 @@ use mathlib.Core.Path.{sym}
 use native.Mathlib.Omega.{arith}
 use lib.Seq.{length-take-le}
 use borrow.Author.Tests.{not-true, not-false}
-use Rattle.format.proofs.PartLaws.{rows-there, five, six, seven-or-eight}
+use Rattle.format.proofs.LentPartLaws.{rows-there, five, six, seven-or-eight}
 use borrow.Author.Needs.{needs}
 use Rattle.format.proofs.refusal.Statement.{statement}
 use Rattle.format.proofs.refusal.Tie as tie

@@ -11,7 +11,7 @@ use Rattle.neq.proofs.side.Tie as tie
 use Rattle.neq.proofs.side.Reads as reads
 use Rattle.neq.proofs.side.Lts as lts
 use Rattle.neq.proofs.other_than.Reads as other-than-reads
-use Rattle.neq.proofs.single.Reads as single-reads
+use Rattle.neq.proofs.one_string.Reads as one-string-reads
 use Rattle.rows.proofs.trim.Reads as trim-reads
 use Rattle.words.proofs.highest.Reads as highest-reads
 
@@ -28,8 +28,8 @@ returns c =
     let v = c .before .trim .result in
     against-none x y v (search needs) (search needs) (array-words x (λ i. search needs)) (array-words y (λ i. search needs)) (λ i. search needs) (c .before .trim .ensures) (c .if1 .taken)
 
-single-requires : tie.Need-single-requires
-single-requires c κs = search needs
+one-string-requires : tie.Need-one-string-requires
+one-string-requires c κs = search needs
 
 array-read-highest : tie.Need-array-read-highest
 array-read-highest c = search needs
@@ -48,7 +48,7 @@ returns-2 c =
     let x = c .before .before .before .before .before .before .args .x in
     let y = c .before .before .before .before .before .before .args .y in
     let v = c .before .before .before .before .before .trim .result in
-    let one : any several v ≡ false = not-true (any several v) (sym (c .before .before .before .single .ensures) ∙ c .before .before .if2 .taken) in
+    let one : any several v ≡ false = not-true (any several v) (sym (c .before .before .before .one-string .ensures) ∙ c .before .before .if2 .taken) in
     rw (c .other-than .ensures) (against-one x y v (search needs) (search needs) (array-words x (λ i. search needs)) (array-words y (λ i. search needs)) (λ i. search needs) (c .before .before .before .before .before .trim .ensures) one (c .before .highest .result) (c .before .highest .ensures))
 
 trim-requires-2 : tie.Need-trim-requires-2
@@ -59,7 +59,7 @@ returns-3 c =
     let x = c .before .before .before .before .before .args .x in
     let y = c .before .before .before .before .before .args .y in
     let v = c .before .before .before .before .trim .result in
-    let more : any several v ≡ true = not-false (any several v) (sym (c .before .before .single .ensures) ∙ c .before .if2 .left) in
+    let more : any several v ≡ true = not-false (any several v) (sym (c .before .before .one-string .ensures) ∙ c .before .if2 .left) in
     rw (c .trim2 .ensures) (against-several x y v (search needs) (search needs) (array-words x (λ i. search needs)) (array-words y (λ i. search needs)) (λ i. search needs) (c .before .before .before .before .trim .ensures) more)
 
 pub side-spec : {M : Type 1} → statement M
@@ -69,7 +69,7 @@ side-spec =
     trim-requires
     array-read-if1
     returns
-    single-requires
+    one-string-requires
     array-read-highest
     highest-requires
     add-other-than

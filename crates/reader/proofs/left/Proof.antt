@@ -35,7 +35,7 @@ use denote.Triple.Table.{entered, cited}
 use denote.Triple.Walked.{says, Stays, stay-none, walkOf, goes-none, Walks, ends-at, walked, walk-meets}
 use denote.Exit.{yes}
 use Rattle.reader.specs.declared.Reader.{Reader}
-use Rattle.reader.proofs.Answers.{answers}
+use Rattle.reader.proofs.AnsweredCalls.{answers}
 use Rattle.reader.proofs.Callers.{α, B, Holding, Token, remaining, lent, bytes-out}
 use Rattle.reader.proofs.Reader as T
 use Rattle.reader.proofs.Reader.Laws as T′

@@ -41,7 +41,7 @@ use denote.Triple.Walked.{says, needs, Stays, stay-none, walkOf, goes-none, Walk
 use denote.Exit.{yes}
 use Rattle.model.specs.Layout.{little, part}
 use Rattle.reader.specs.declared.Reader.{Reader}
-use Rattle.reader.proofs.Answers.{answers}
+use Rattle.reader.proofs.AnsweredCalls.{answers}
 use Rattle.reader.proofs.Callers.{α, B, Holding, Token, lent, again, bytes-out}
 use Rattle.reader.proofs.Reader as T
 use Rattle.reader.proofs.Reader.Laws as T′

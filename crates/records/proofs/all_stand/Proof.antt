@@ -57,12 +57,11 @@ use Rattle.reader.proofs.«record».Met as record-thm
 use Rattle.reader.proofs.left.Symbol as left-def
 use Rattle.reader.proofs.left.Symbol.{name as #reader·left}
 use Rattle.reader.proofs.left.Met as left-thm
-use Rattle.reader.proofs.Answers.{answers}
-use Rattle.reader.proofs.Callers.{Holding, Good, Token, Record, Left, small, remaining, lent, fresh, fresh-good, typed, starts, bytes-known}
-use Rattle.reader.proofs.Callers.{calls-record, calls-left}
+use Rattle.reader.proofs.AnsweredCalls.{answers}
+use Rattle.reader.proofs.Callers.{Holding, Good, Token, Record, Left, small, remaining, lent, fresh, fresh-good, typed, starts, bytes-known, calls-record, calls-left}
 use Rattle.records.specs.Records.{bytesOf, isSome}
 use Rattle.records.proofs.RecordLaws.{of-number}
-use Rattle.records.proofs.RefusalLaws.{Decodes, decodes-none, decodes-next, one-fails, none-fails}
+use Rattle.records.proofs.RecordRefusalLaws.{Decodes, decodes-none, decodes-next, one-fails, none-fails}
 use Rattle.records.proofs.stands as stands
 use Rattle.records.proofs.stands.Symbol as stands-def
 use Rattle.records.proofs.stands.Symbol.{name as #records·stands}

@@ -1,6 +1,6 @@
 use mathlib.Core.Path.{sym, _∙_}
 use borrow.Author.Tests.{not-true, not-false}
-use Rattle.records.proofs.RefusalLaws.{counted, seven, not-seven}
+use Rattle.records.proofs.RecordRefusalLaws.{counted, seven, not-seven}
 use borrow.Author.Needs.{needs}
 use Rattle.records.proofs.check.Statement.{statement}
 use Rattle.records.proofs.check.Tie as tie

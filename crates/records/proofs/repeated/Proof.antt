@@ -1,7 +1,7 @@
 use mathlib.Core.Path.{sym, _∙_}
 use Prim.Native.Nat.{_-_, _≤_}
 use borrow.Author.Needs.{needs}
-use Rattle.records.proofs.RefusalLaws.{Distinct, distinct-none, distinct-next, eight, not-eight, never-none}
+use Rattle.records.proofs.RecordRefusalLaws.{Distinct, distinct-none, distinct-next, eight, not-eight, never-none}
 use Rattle.records.proofs.repeated.Statement.{statement}
 use Rattle.records.proofs.repeated.Tie as tie
 use Rattle.records.proofs.repeated.Reads as reads

@@ -1,5 +1,5 @@
 use Rattle.records.specs.Records.{bytesOf}
-use Rattle.records.proofs.RefusalLaws.{stood, fell}
+use Rattle.records.proofs.RecordRefusalLaws.{stood, fell}
 use borrow.Author.Needs.{needs}
 use Rattle.records.proofs.stands.Statement.{statement}
 use Rattle.records.proofs.stands.Tie as tie

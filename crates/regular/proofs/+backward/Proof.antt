@@ -30,7 +30,9 @@ abbrev backward-below : ℕ → In 1 backward-kinds.ps
 backward-below t =
     and 1 backward-kinds.ps (falls 1 backward-kinds.ps _<_ μ-backward t) backward.Pre
 
-backward-sub-i : (t : ℕ) → backward-lts.Need-sub-i (
+-- what each call asks and tells, in the order of the calls' names; of `backward` itself only where the measure has fallen
+abbrev claims : ℕ → backward-lts.Claims
+claims t = (
   accepting-reads.Asked,
   accepting-reads.Learnt,
   ending-reads.Asked,
@@ -41,133 +43,36 @@ backward-sub-i : (t : ℕ) → backward-lts.Need-sub-i (
   backward.Post,
   predecessors-reads.Asked,
   predecessors-reads.Learnt,
-) (backward-at t) backward.Post
+)
+
+backward-sub-i : (t : ℕ) → backward-lts.Need-sub-i (claims t) (backward-at t) backward.Post
 backward-sub-i t c = search needs
 
-backward-array-read-ending : (t : ℕ) → backward-lts.Need-array-read-ending (
-  accepting-reads.Asked,
-  accepting-reads.Learnt,
-  ending-reads.Asked,
-  ending-reads.Learnt,
-  none-from-reads.Asked,
-  none-from-reads.Learnt,
-  backward-below t,
-  backward.Post,
-  predecessors-reads.Asked,
-  predecessors-reads.Learnt,
-) (backward-at t) backward.Post
+backward-array-read-ending : (t : ℕ) → backward-lts.Need-array-read-ending (claims t) (backward-at t) backward.Post
 backward-array-read-ending t c = search needs
 
-backward-accepting-requires : (t : ℕ) → backward-lts.Need-accepting-requires (
-  accepting-reads.Asked,
-  accepting-reads.Learnt,
-  ending-reads.Asked,
-  ending-reads.Learnt,
-  none-from-reads.Asked,
-  none-from-reads.Learnt,
-  backward-below t,
-  backward.Post,
-  predecessors-reads.Asked,
-  predecessors-reads.Learnt,
-) (backward-at t) backward.Post
+backward-accepting-requires : (t : ℕ) → backward-lts.Need-accepting-requires (claims t) (backward-at t) backward.Post
 backward-accepting-requires t c κs = search needs
 
-backward-ending-requires : (t : ℕ) → backward-lts.Need-ending-requires (
-  accepting-reads.Asked,
-  accepting-reads.Learnt,
-  ending-reads.Asked,
-  ending-reads.Learnt,
-  none-from-reads.Asked,
-  none-from-reads.Learnt,
-  backward-below t,
-  backward.Post,
-  predecessors-reads.Asked,
-  predecessors-reads.Learnt,
-) (backward-at t) backward.Post
+backward-ending-requires : (t : ℕ) → backward-lts.Need-ending-requires (claims t) (backward-at t) backward.Post
 backward-ending-requires t c κs = search needs
 
-backward-array-read-none-from : (t : ℕ) → backward-lts.Need-array-read-none-from (
-  accepting-reads.Asked,
-  accepting-reads.Learnt,
-  ending-reads.Asked,
-  ending-reads.Learnt,
-  none-from-reads.Asked,
-  none-from-reads.Learnt,
-  backward-below t,
-  backward.Post,
-  predecessors-reads.Asked,
-  predecessors-reads.Learnt,
-) (backward-at t) backward.Post
+backward-array-read-none-from : (t : ℕ) → backward-lts.Need-array-read-none-from (claims t) (backward-at t) backward.Post
 backward-array-read-none-from t c = search needs
 
-backward-add-none-from : (t : ℕ) → backward-lts.Need-add-none-from (
-  accepting-reads.Asked,
-  accepting-reads.Learnt,
-  ending-reads.Asked,
-  ending-reads.Learnt,
-  none-from-reads.Asked,
-  none-from-reads.Learnt,
-  backward-below t,
-  backward.Post,
-  predecessors-reads.Asked,
-  predecessors-reads.Learnt,
-) (backward-at t) backward.Post
+backward-add-none-from : (t : ℕ) → backward-lts.Need-add-none-from (claims t) (backward-at t) backward.Post
 backward-add-none-from t c = search needs
 
-backward-none-from-requires : (t : ℕ) → backward-lts.Need-none-from-requires (
-  accepting-reads.Asked,
-  accepting-reads.Learnt,
-  ending-reads.Asked,
-  ending-reads.Learnt,
-  none-from-reads.Asked,
-  none-from-reads.Learnt,
-  backward-below t,
-  backward.Post,
-  predecessors-reads.Asked,
-  predecessors-reads.Learnt,
-) (backward-at t) backward.Post
+backward-none-from-requires : (t : ℕ) → backward-lts.Need-none-from-requires (claims t) (backward-at t) backward.Post
 backward-none-from-requires t c κs = search needs
 
-backward-mul-sets : (t : ℕ) → backward-lts.Need-mul-sets (
-  accepting-reads.Asked,
-  accepting-reads.Learnt,
-  ending-reads.Asked,
-  ending-reads.Learnt,
-  none-from-reads.Asked,
-  none-from-reads.Learnt,
-  backward-below t,
-  backward.Post,
-  predecessors-reads.Asked,
-  predecessors-reads.Learnt,
-) (backward-at t) backward.Post
+backward-mul-sets : (t : ℕ) → backward-lts.Need-mul-sets (claims t) (backward-at t) backward.Post
 backward-mul-sets t c = search needs
 
-backward-array-write-sets : (t : ℕ) → backward-lts.Need-array-write-sets (
-  accepting-reads.Asked,
-  accepting-reads.Learnt,
-  ending-reads.Asked,
-  ending-reads.Learnt,
-  none-from-reads.Asked,
-  none-from-reads.Learnt,
-  backward-below t,
-  backward.Post,
-  predecessors-reads.Asked,
-  predecessors-reads.Learnt,
-) (backward-at t) backward.Post
+backward-array-write-sets : (t : ℕ) → backward-lts.Need-array-write-sets (claims t) (backward-at t) backward.Post
 backward-array-write-sets t c = search needs
 
-backward-returns : (t : ℕ) → backward-lts.Need-returns (
-  accepting-reads.Asked,
-  accepting-reads.Learnt,
-  ending-reads.Asked,
-  ending-reads.Learnt,
-  none-from-reads.Asked,
-  none-from-reads.Learnt,
-  backward-below t,
-  backward.Post,
-  predecessors-reads.Asked,
-  predecessors-reads.Learnt,
-) (backward-at t) backward.Post
+backward-returns : (t : ℕ) → backward-lts.Need-returns (claims t) (backward-at t) backward.Post
 backward-returns t c =
     let s = c .before .before .before .before .before in
     let x = s .args .t3 in
@@ -180,175 +85,43 @@ backward-returns t c =
       gathered-empty _ _ (λ i t x. no-bit _ i refl (x .0)),
     )
 
-backward-sub-backward : (t : ℕ) → backward-lts.Need-sub-backward (
-  accepting-reads.Asked,
-  accepting-reads.Learnt,
-  ending-reads.Asked,
-  ending-reads.Learnt,
-  none-from-reads.Asked,
-  none-from-reads.Learnt,
-  backward-below t,
-  backward.Post,
-  predecessors-reads.Asked,
-  predecessors-reads.Learnt,
-) (backward-at t) backward.Post
+backward-sub-backward : (t : ℕ) → backward-lts.Need-sub-backward (claims t) (backward-at t) backward.Post
 backward-sub-backward t c = some-left _ _ (sym (c .before .none-from .ensures) ∙ c .if1 .left)
 
-backward-backward-requires : (t : ℕ) → backward-lts.Need-backward-requires (
-  accepting-reads.Asked,
-  accepting-reads.Learnt,
-  ending-reads.Asked,
-  ending-reads.Learnt,
-  none-from-reads.Asked,
-  none-from-reads.Learnt,
-  backward-below t,
-  backward.Post,
-  predecessors-reads.Asked,
-  predecessors-reads.Learnt,
-) (backward-at t) backward.Post
+backward-backward-requires : (t : ℕ) → backward-lts.Need-backward-requires (claims t) (backward-at t) backward.Post
 backward-backward-requires t c κs =
     let s = c .before .before .before .before .before in
     let some = some-left _ _ (sym (c .before .none-from .ensures) ∙ c .if1 .left) in
     (omega arith, (s .pre .1 .0, s .pre .1 .1, s .pre .1 .2, omega arith))
 
-backward-add-set : (t : ℕ) → backward-lts.Need-add-set (
-  accepting-reads.Asked,
-  accepting-reads.Learnt,
-  ending-reads.Asked,
-  ending-reads.Learnt,
-  none-from-reads.Asked,
-  none-from-reads.Learnt,
-  backward-below t,
-  backward.Post,
-  predecessors-reads.Asked,
-  predecessors-reads.Learnt,
-) (backward-at t) backward.Post
+backward-add-set : (t : ℕ) → backward-lts.Need-add-set (claims t) (backward-at t) backward.Post
 backward-add-set t c = search needs
 
-backward-mul-set : (t : ℕ) → backward-lts.Need-mul-set (
-  accepting-reads.Asked,
-  accepting-reads.Learnt,
-  ending-reads.Asked,
-  ending-reads.Learnt,
-  none-from-reads.Asked,
-  none-from-reads.Learnt,
-  backward-below t,
-  backward.Post,
-  predecessors-reads.Asked,
-  predecessors-reads.Learnt,
-) (backward-at t) backward.Post
+backward-mul-set : (t : ℕ) → backward-lts.Need-mul-set (claims t) (backward-at t) backward.Post
 backward-mul-set t c = search needs
 
-backward-element-copy-out-set : (t : ℕ) → backward-lts.Need-element-copy-out-set (
-  accepting-reads.Asked,
-  accepting-reads.Learnt,
-  ending-reads.Asked,
-  ending-reads.Learnt,
-  none-from-reads.Asked,
-  none-from-reads.Learnt,
-  backward-below t,
-  backward.Post,
-  predecessors-reads.Asked,
-  predecessors-reads.Learnt,
-) (backward-at t) backward.Post
+backward-element-copy-out-set : (t : ℕ) → backward-lts.Need-element-copy-out-set (claims t) (backward-at t) backward.Post
 backward-element-copy-out-set t c = let some = some-left _ _ (sym (c .before .before .none-from .ensures) ∙ c .before .if1 .left) in omega arith
 
-backward-add-symbols : (t : ℕ) → backward-lts.Need-add-symbols (
-  accepting-reads.Asked,
-  accepting-reads.Learnt,
-  ending-reads.Asked,
-  ending-reads.Learnt,
-  none-from-reads.Asked,
-  none-from-reads.Learnt,
-  backward-below t,
-  backward.Post,
-  predecessors-reads.Asked,
-  predecessors-reads.Learnt,
-) (backward-at t) backward.Post
+backward-add-symbols : (t : ℕ) → backward-lts.Need-add-symbols (claims t) (backward-at t) backward.Post
 backward-add-symbols t c = search needs
 
-backward-mul-symbols : (t : ℕ) → backward-lts.Need-mul-symbols (
-  accepting-reads.Asked,
-  accepting-reads.Learnt,
-  ending-reads.Asked,
-  ending-reads.Learnt,
-  none-from-reads.Asked,
-  none-from-reads.Learnt,
-  backward-below t,
-  backward.Post,
-  predecessors-reads.Asked,
-  predecessors-reads.Learnt,
-) (backward-at t) backward.Post
+backward-mul-symbols : (t : ℕ) → backward-lts.Need-mul-symbols (claims t) (backward-at t) backward.Post
 backward-mul-symbols t c = search needs
 
-backward-array-read-symbols : (t : ℕ) → backward-lts.Need-array-read-symbols (
-  accepting-reads.Asked,
-  accepting-reads.Learnt,
-  ending-reads.Asked,
-  ending-reads.Learnt,
-  none-from-reads.Asked,
-  none-from-reads.Learnt,
-  backward-below t,
-  backward.Post,
-  predecessors-reads.Asked,
-  predecessors-reads.Learnt,
-) (backward-at t) backward.Post
+backward-array-read-symbols : (t : ℕ) → backward-lts.Need-array-read-symbols (claims t) (backward-at t) backward.Post
 backward-array-read-symbols t c = let some = some-left _ _ (sym (c .before .before .before .none-from .ensures) ∙ c .before .before .if1 .left) in omega arith
 
-backward-predecessors-requires : (t : ℕ) → backward-lts.Need-predecessors-requires (
-  accepting-reads.Asked,
-  accepting-reads.Learnt,
-  ending-reads.Asked,
-  ending-reads.Learnt,
-  none-from-reads.Asked,
-  none-from-reads.Learnt,
-  backward-below t,
-  backward.Post,
-  predecessors-reads.Asked,
-  predecessors-reads.Learnt,
-) (backward-at t) backward.Post
+backward-predecessors-requires : (t : ℕ) → backward-lts.Need-predecessors-requires (claims t) (backward-at t) backward.Post
 backward-predecessors-requires t c κs = search needs
 
-backward-mul-behind : (t : ℕ) → backward-lts.Need-mul-behind (
-  accepting-reads.Asked,
-  accepting-reads.Learnt,
-  ending-reads.Asked,
-  ending-reads.Learnt,
-  none-from-reads.Asked,
-  none-from-reads.Learnt,
-  backward-below t,
-  backward.Post,
-  predecessors-reads.Asked,
-  predecessors-reads.Learnt,
-) (backward-at t) backward.Post
+backward-mul-behind : (t : ℕ) → backward-lts.Need-mul-behind (claims t) (backward-at t) backward.Post
 backward-mul-behind t c = search needs
 
-backward-element-write-behind : (t : ℕ) → backward-lts.Need-element-write-behind (
-  accepting-reads.Asked,
-  accepting-reads.Learnt,
-  ending-reads.Asked,
-  ending-reads.Learnt,
-  none-from-reads.Asked,
-  none-from-reads.Learnt,
-  backward-below t,
-  backward.Post,
-  predecessors-reads.Asked,
-  predecessors-reads.Learnt,
-) (backward-at t) backward.Post
+backward-element-write-behind : (t : ℕ) → backward-lts.Need-element-write-behind (claims t) (backward-at t) backward.Post
 backward-element-write-behind t c = search needs
 
-backward-returns-2 : (t : ℕ) → backward-lts.Need-returns-2 (
-  accepting-reads.Asked,
-  accepting-reads.Learnt,
-  ending-reads.Asked,
-  ending-reads.Learnt,
-  none-from-reads.Asked,
-  none-from-reads.Learnt,
-  backward-below t,
-  backward.Post,
-  predecessors-reads.Asked,
-  predecessors-reads.Learnt,
-) (backward-at t) backward.Post
+backward-returns-2 : (t : ℕ) → backward-lts.Need-returns-2 (claims t) (backward-at t) backward.Post
 backward-returns-2 t c =
     let b = c .before .before .before in
     let e = b .before .before .before in
@@ -364,20 +137,7 @@ backward-returns-2 t c =
     )
 
 pub +backward-spec : {M : Type 1} → statement M
-+backward-spec = close μ-backward λ t. backward-lts.spec (
-  accepting-reads.Asked,
-  accepting-reads.Learnt,
-  ending-reads.Asked,
-  ending-reads.Learnt,
-  none-from-reads.Asked,
-  none-from-reads.Learnt,
-  backward-below t,
-  backward.Post,
-  predecessors-reads.Asked,
-  predecessors-reads.Learnt,
-)
-    (backward-at t)
-    backward.Post
++backward-spec = close μ-backward λ t. backward-lts.spec (claims t) (backward-at t) backward.Post
     (backward-sub-i t)
     (backward-array-read-ending t)
     (backward-accepting-requires t)

@@ -3,10 +3,10 @@ use native.Mathlib.Omega.{arith}
 use lib.ListN.{length}
 use mathlib.Core.Path.{_≡_, refl}
 use Rattle.automata.specs.Machine.{stateCount, machine}
-use Rattle.automata.specs.Sets.{Successors}
+use Rattle.automata.specs.StateSets.{Successors}
 use Rattle.automata.proofs.SetLaws.{gathered-empty, no-bit}
 use Rattle.rows.proofs.Fill.{array-words}
-use Rattle.regular.specs.Sets.{Forward}
+use Rattle.regular.specs.PlaceSets.{Forward}
 use Rattle.regular.proofs.StateLaws.{machine-suited, forward-start, forward-step, forward-upto}
 use borrow.Author.Needs.{needs}
 use Rattle.regular.proofs.forward.Statement.{statement}

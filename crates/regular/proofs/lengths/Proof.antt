@@ -9,7 +9,7 @@ use Rattle.regular.proofs.lengths.Tie as tie
 use Rattle.regular.proofs.lengths.Reads as reads
 use Rattle.regular.proofs.lengths.Lts as lts
 use Rattle.words.proofs.lowest.Reads as lowest-reads
-use Rattle.words.proofs.single.Reads as single-reads
+use Rattle.words.proofs.singleton.Reads as singleton-reads
 
 abbrev Inv-loop : tie.InvT-loop
 Inv-loop allowed accepting before rest₀ r₀ rest r = Walked 64 allowed (Ending allowed accepting before) rest r
@@ -23,8 +23,8 @@ loop-holds c = walked-start _ _ _ _ (λ i t x. x .1) (low-all 64 _ (omega arith)
 lowest-requires : tie.Need-lowest-requires Inv-loop μ-loop
 lowest-requires c κs = search needs
 
-single-requires : tie.Need-single-requires Inv-loop μ-loop
-single-requires c κs = search needs
+singleton-requires : tie.Need-singleton-requires Inv-loop μ-loop
+singleton-requires c κs = search needs
 
 mul-if1 : tie.Need-mul-if1 Inv-loop μ-loop
 mul-if1 c = search needs
@@ -33,17 +33,17 @@ array-read-if1 : tie.Need-array-read-if1 Inv-loop μ-loop
 array-read-if1 c = search needs
 
 sub-rest : tie.Need-sub-rest Inv-loop μ-loop
-sub-rest c = lowest-off _ _ _ (c .before .before .lowest .ensures) (c .before .single .ensures) .0
+sub-rest c = lowest-off _ _ _ (c .before .before .lowest .ensures) (c .before .singleton .ensures) .0
 
 loop-less : tie.Need-loop-less Inv-loop μ-loop
-loop-less c = lowest-off _ _ _ (c .before .before .lowest .ensures) (c .before .single .ensures) .1
+loop-less c = lowest-off _ _ _ (c .before .before .lowest .ensures) (c .before .singleton .ensures) .1
 
 loop-again : tie.Need-loop-again Inv-loop μ-loop
 loop-again c =
     let l = c .before .before in
     let g = l .before .before .loop .inv in
     let before = l .before .before .before .args .t3 in
-    let o = c .before .single .ensures in
+    let o = c .before .singleton .ensures in
     ⊎-elim
     (λ w. lengths-add _ _ before _ _ _ _ _ g (l .lowest .ensures) o (search needs) (w .0 .taken) (w .1))
     (λ w. lengths-skip _ _ before _ _ _ _ _ g (l .lowest .ensures) o (w .0 .left) (w .1))
@@ -60,7 +60,7 @@ lengths-spec =
     μ-loop
     loop-holds
     lowest-requires
-    single-requires
+    singleton-requires
     mul-if1
     array-read-if1
     sub-rest

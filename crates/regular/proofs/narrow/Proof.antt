@@ -5,7 +5,7 @@ use Rattle.rows.proofs.Fill.{array-words}
 use Rattle.automata.specs.Machine.{stateCount, machine}
 use Rattle.automata.proofs.MachineLaws.{machine-accepting}
 use Rattle.automata.proofs.SetLaws.{gathered-empty, no-bit}
-use Rattle.regular.specs.Sets.{Symbols}
+use Rattle.regular.specs.PlaceSets.{Symbols}
 use Rattle.regular.proofs.StateLaws.{machine-suited}
 use Rattle.regular.proofs.RegularLaws.{Kept, kept-start, kept-upto, kept-step, regular-narrowed}
 use borrow.Author.Needs.{needs}

@@ -12,7 +12,7 @@ use Rattle.regular.proofs.symbols.Lts as lts
 use Rattle.automata.proofs.below.Reads as below-reads
 use Rattle.automata.proofs.leads.Reads as leads-reads
 use Rattle.words.proofs.lowest.Reads as lowest-reads
-use Rattle.words.proofs.single.Reads as single-reads
+use Rattle.words.proofs.singleton.Reads as singleton-reads
 
 abbrev Inv-loop : tie.InvT-loop
 Inv-loop d k allowed before after rest₀ r₀ rest r = Walked k allowed (Leading (machine k d) (stateCount d) allowed before after) rest r
@@ -29,23 +29,23 @@ loop-holds c = walked-start _ _ _ _ (λ i t x. x .1) (c .below .ensures)
 lowest-requires : tie.Need-lowest-requires Inv-loop μ-loop
 lowest-requires c κs = search needs
 
-single-requires : tie.Need-single-requires Inv-loop μ-loop
-single-requires c κs = search needs
+singleton-requires : tie.Need-singleton-requires Inv-loop μ-loop
+singleton-requires c κs = search needs
 
 leads-requires : tie.Need-leads-requires Inv-loop μ-loop
 leads-requires c κs = (search needs, search needs, walked-next _ _ _ _ _ _ (c .before .before .before .loop .inv) (c .before .lowest .ensures))
 
 sub-rest : tie.Need-sub-rest Inv-loop μ-loop
-sub-rest c = lowest-off _ _ _ (c .before .before .before .lowest .ensures) (c .before .before .single .ensures) .0
+sub-rest c = lowest-off _ _ _ (c .before .before .before .lowest .ensures) (c .before .before .singleton .ensures) .0
 
 loop-less : tie.Need-loop-less Inv-loop μ-loop
-loop-less c = lowest-off _ _ _ (c .before .before .before .lowest .ensures) (c .before .before .single .ensures) .1
+loop-less c = lowest-off _ _ _ (c .before .before .before .lowest .ensures) (c .before .before .singleton .ensures) .1
 
 loop-again : tie.Need-loop-again Inv-loop μ-loop
 loop-again c =
     let l = c .before .before .before in
     let g = l .before .before .loop .inv in
-    let o = c .before .before .single .ensures in
+    let o = c .before .before .singleton .ensures in
     let x = c .before .leads .ensures in
     ⊎-elim
     (λ w. symbols-add _ _ _ _ _ _ _ _ _ _ _ _ g (l .lowest .ensures) o x (w .0 .taken) (w .1))
@@ -64,7 +64,7 @@ symbols-spec =
     below-requires
     loop-holds
     lowest-requires
-    single-requires
+    singleton-requires
     leads-requires
     sub-rest
     loop-less

@@ -13,7 +13,7 @@ use Rattle.rev.proofs.backwards.Statement.{statement}
 use Rattle.rev.proofs.backwards.Tie as tie
 use Rattle.rev.proofs.backwards.Reads as reads
 use Rattle.rev.proofs.backwards.Lts as lts
-use Rattle.words.proofs.single.Reads as single-reads
+use Rattle.words.proofs.singleton.Reads as singleton-reads
 
 -- one place more
 step : (y : List ℕ) (l i : ℕ) (r : List ℕ) → i < l → l < 64 → Backwards y l i r → Backwards y l (i + 1) (set r (i + 1) (getD y (l - i) 0))
@@ -36,14 +36,14 @@ Inv-loop l y r₀ i₀ r i = (i ≤ l) × Backwards y l i r
 abbrev μ-loop : tie.MeasureT-loop
 μ-loop l y r₀ i₀ r i = l - i
 
-single-requires : tie.Need-single-requires Inv-loop μ-loop
-single-requires c κs = search needs
+singleton-requires : tie.Need-singleton-requires Inv-loop μ-loop
+singleton-requires c κs = search needs
 
 array-write-r : tie.Need-array-write-r Inv-loop μ-loop
 array-write-r c = search needs
 
 loop-holds : tie.Need-loop-holds Inv-loop μ-loop
-loop-holds c = (search needs, record { size = refl; first = c .single .ensures; kept = λ k h. absurd (not-suc-le-zero h) })
+loop-holds c = (search needs, record { size = refl; first = c .singleton .ensures; kept = λ k h. absurd (not-suc-le-zero h) })
 
 sub-r : tie.Need-sub-r Inv-loop μ-loop
 sub-r c = search needs
@@ -84,7 +84,7 @@ backwards-spec =
     (tie.spec
     Inv-loop
     μ-loop
-    single-requires
+    singleton-requires
     array-write-r
     loop-holds
     sub-r

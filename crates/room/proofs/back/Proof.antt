@@ -4,7 +4,7 @@ use native.Mathlib.Omega.{arith}
 use lib.ListN.{length-set}
 use Rattle.model.specs.Words.{word}
 use Rattle.laws.proofs.WordLaws.{bit-le}
-use Rattle.laws.proofs.PartLaws.{replaced}
+use Rattle.laws.proofs.SliceLaws.{replaced}
 use Rattle.room.proofs.MoveLaws.{lent-length, back-right}
 use borrow.Author.Needs.{needs}
 use Rattle.room.proofs.back.Statement.{statement}
@@ -14,7 +14,7 @@ use Rattle.room.proofs.back.Lts as lts
 use Rattle.room.proofs.decide.Reads as decide-reads
 use Rattle.room.proofs.resume.Reads as resume-reads
 use Rattle.words.proofs.lowest.Reads as lowest-reads
-use Rattle.words.proofs.single.Reads as single-reads
+use Rattle.words.proofs.singleton.Reads as singleton-reads
 
 mul-w : tie.Need-mul-w
 mul-w c = search needs
@@ -31,11 +31,11 @@ slice-read-w c = search needs
 lowest-requires : tie.Need-lowest-requires
 lowest-requires c κs = search needs
 
-single-requires : tie.Need-single-requires
-single-requires c κs = search needs
+singleton-requires : tie.Need-singleton-requires
+singleton-requires c κs = search needs
 
 sub-room : tie.Need-sub-room
-sub-room c = rw (c .single .ensures) (bit-le _ _ (c .before .lowest .ensures .here))
+sub-room c = rw (c .singleton .ensures) (bit-le _ _ (c .before .lowest .ensures .here))
 
 mul-room : tie.Need-mul-room
 mul-room c = search needs
@@ -64,8 +64,8 @@ part-decide-start c = search needs
 part-decide-end : tie.Need-part-decide-end
 part-decide-end c =
     let a = c .before .before .before .before .before .args in
-    let i = 2 * a .m + a .k in
-    omega (arith, length-set (a .room .now) i (word (a .room .now) i - c .single .result))
+    let i = 2 * a .m + a .at in
+    omega (arith, length-set (a .room .now) i (word (a .room .now) i - c .singleton .result))
 
 decide-requires : tie.Need-decide-requires
 decide-requires c κs = search needs
@@ -77,8 +77,8 @@ resume-requires c κs =
     let s = u .before .before in
     let a = s .before .before .before .before .before .args in
     let R = a .room .now in
-    let i = 2 * a .m + a .k in
-    omega (arith, lent-length R i (word R i - s .single .result) (a .m) (2 * a .m - a .m) (u .decide .last .1 .0) (u .decide .kept .1 .0))
+    let i = 2 * a .m + a .at in
+    omega (arith, lent-length R i (word R i - s .singleton .result) (a .m) (2 * a .m - a .m) (u .decide .last .1 .0) (u .decide .kept .1 .0))
 
 same-length : tie.Need-same-length
 unfolding replaced
@@ -87,8 +87,8 @@ same-length c =
     let s = u .before .before in
     let a = s .before .before .before .before .before .args in
     let R = a .room .now in
-    let i = 2 * a .m + a .k in
-    c .before .before .resume .kept .0 ∙ lent-length R i (word R i - s .single .result) (a .m) (2 * a .m - a .m) (u .decide .last .1 .0) (u .decide .kept .1 .0)
+    let i = 2 * a .m + a .at in
+    c .before .before .resume .kept .0 ∙ lent-length R i (word R i - s .singleton .result) (a .m) (2 * a .m - a .m) (u .decide .last .1 .0) (u .decide .kept .1 .0)
 
 returns : tie.Need-returns
 unfolding replaced
@@ -96,8 +96,8 @@ returns c =
     let u = c .before .before .before .before .before .before in
     let s = u .before .before in
     let a = s .before .before .before .before .before .args in
-    back-right (a .m) (a .k) _ _ (a .bytes .now) (a .room .now) (search needs) (search needs) _ _
-    (s .before .lowest .ensures) (s .single .ensures) (u .decide .ensures) (c .before .before .resume .ensures)
+    back-right (a .m) (a .at) _ _ (a .bytes .now) (a .room .now) (search needs) (search needs) _ _
+    (s .before .lowest .ensures) (s .singleton .ensures) (u .decide .ensures) (c .before .before .resume .ensures)
 
 pub back-spec : {M : Type 1} → statement M
 back-spec =
@@ -108,7 +108,7 @@ back-spec =
     mul-w-2
     slice-read-w
     lowest-requires
-    single-requires
+    singleton-requires
     sub-room
     mul-room
     add-room

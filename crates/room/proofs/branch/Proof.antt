@@ -2,7 +2,8 @@ use mathlib.Core.Path.{sym, _∙_}
 use Prim.Native.Nat.{ℕ, _-_, _≤_, _<_}
 use native.Mathlib.Omega.{arith}
 use Rattle.model.specs.Words.{word}
-use Rattle.laws.proofs.BitsLaws.{Single, several-true, several-false}
+use Rattle.laws.specs.Inclusion.{Single}
+use Rattle.laws.proofs.BitsLaws.{several-true, several-false}
 use borrow.Author.Needs.{needs}
 use borrow.Author.Count.{below-more}
 use Rattle.room.proofs.branch.Statement.{statement}

@@ -2,7 +2,7 @@ use mathlib.Core.Path.{sym}
 use Prim.Native.Nat.{ℕ, _-_, _≤_}
 use native.Mathlib.Omega.{arith}
 use lib.ListN.{length, replicate, length-replicate, getD-replicate}
-use Rattle.laws.proofs.PartLaws.{Copied, copied-start, copied-step, copied-all}
+use Rattle.laws.proofs.SliceLaws.{Copied, copied-start, copied-step, copied-all}
 use borrow.Author.Needs.{needs}
 use Rattle.room.proofs.clear.Statement.{statement}
 use Rattle.room.proofs.clear.Tie as tie

@@ -1,7 +1,7 @@
 use mathlib.Core.Path.{refl}
 use Prim.Native.Nat.{_-_, _≤_}
 use native.Mathlib.Omega.{arith}
-use Rattle.laws.proofs.PartLaws.{Copied, copied-start, copied-step, copied-all}
+use Rattle.laws.proofs.SliceLaws.{Copied, copied-start, copied-step, copied-all}
 use borrow.Author.Needs.{needs}
 use Rattle.room.proofs.copy.Statement.{statement}
 use Rattle.room.proofs.copy.Tie as tie

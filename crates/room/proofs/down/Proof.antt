@@ -8,7 +8,7 @@ use Rattle.room.proofs.down.Tie as tie
 use Rattle.room.proofs.down.Reads as reads
 use Rattle.room.proofs.down.Lts as lts
 use Rattle.words.proofs.lowest.Reads as lowest-reads
-use Rattle.words.proofs.single.Reads as single-reads
+use Rattle.words.proofs.singleton.Reads as singleton-reads
 
 mul-w : tie.Need-mul-w
 mul-w c = search needs
@@ -19,8 +19,8 @@ slice-read-w c = search needs
 lowest-requires : tie.Need-lowest-requires
 lowest-requires c κs = search needs
 
-single-requires : tie.Need-single-requires
-single-requires c κs = search needs
+singleton-requires : tie.Need-singleton-requires
+singleton-requires c κs = search needs
 
 mul-room : tie.Need-mul-room
 mul-room c = search needs
@@ -38,7 +38,7 @@ slice-write-room-2 : tie.Need-slice-write-room-2
 slice-write-room-2 c = simp length-set (search needs)
 
 sub-room : tie.Need-sub-room
-sub-room c = let l = bit-le _ _ (c .before .lowest .ensures .here) in omega (arith, c .single .ensures, l)
+sub-room c = let l = bit-le _ _ (c .before .lowest .ensures .here) in omega (arith, c .singleton .ensures, l)
 
 mul-room-3 : tie.Need-mul-room-3
 mul-room-3 c = search needs
@@ -56,7 +56,7 @@ same-length : tie.Need-same-length
 same-length c = search needs
 
 returns : tie.Need-returns
-returns c = down-right _ _ _ _ _ (search needs) (c .before .lowest .ensures) (c .single .ensures)
+returns c = down-right _ _ _ _ _ (search needs) (c .before .lowest .ensures) (c .singleton .ensures)
 
 pub down-spec : {M : Type 1} → statement M
 down-spec =
@@ -65,7 +65,7 @@ down-spec =
     mul-w
     slice-read-w
     lowest-requires
-    single-requires
+    singleton-requires
     mul-room
     slice-write-room
     add-room

@@ -1,6 +1,6 @@
 use Prim.Native.Nat.{_-_, _≤_}
 use native.Mathlib.Omega.{arith}
-use Rattle.laws.proofs.PartLaws.{Copied, copied-start}
+use Rattle.laws.proofs.SliceLaws.{Copied, copied-start}
 use Rattle.room.specs.Tables.{tableAt}
 use Rattle.room.proofs.MoveLaws.{resume-step, resume-tables}
 use borrow.Author.Needs.{needs}

@@ -1,7 +1,7 @@
 use mathlib.Core.Path.{sym}
 use native.Mathlib.Omega.{arith}
 use lib.Seq.{length-take-le}
-use Rattle.laws.proofs.PartLaws.{replaced}
+use Rattle.laws.proofs.SliceLaws.{replaced}
 use Rattle.room.proofs.MoveLaws.{start-tables}
 use borrow.Author.Needs.{needs}
 use Rattle.room.proofs.start.Statement.{statement}

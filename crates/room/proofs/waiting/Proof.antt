@@ -11,10 +11,10 @@ use Rattle.room.proofs.waiting.Reads as reads
 use Rattle.room.proofs.waiting.Lts as lts
 
 abbrev Inv-loop : tie.InvT-loop
-Inv-loop table k₀ k = (k ≤ length table) × ((j : ℕ) → k ≤ j → word table j ≡ 0)
+Inv-loop table k₀ at = (at ≤ length table) × ((j : ℕ) → at ≤ j → word table j ≡ 0)
 
 abbrev μ-loop : tie.MeasureT-loop
-μ-loop table k₀ k = k
+μ-loop table k₀ at = at
 
 loop-holds : tie.Need-loop-holds Inv-loop μ-loop
 loop-holds c = (search needs, λ j h. List·getD-eq-default (c .args .table .now) 0 h)
@@ -31,8 +31,8 @@ shared-slice-read-if1 c = search needs
 returns : tie.Need-returns Inv-loop μ-loop
 returns c = record { most = search needs; here = λ h. omega (arith, c .if1 .taken); after = c .before .before .before .loop .inv .1 }
 
-sub-k : tie.Need-sub-k Inv-loop μ-loop
-sub-k c = search needs
+sub-at : tie.Need-sub-at Inv-loop μ-loop
+sub-at c = search needs
 
 loop-less : tie.Need-loop-less Inv-loop μ-loop
 loop-less c = search needs
@@ -40,7 +40,7 @@ loop-less c = search needs
 loop-again : tie.Need-loop-again Inv-loop μ-loop
 loop-again c =
     let l = c .before .before .before .loop in
-    (search needs, nothing-step (c .before .before .before .before .args .table .now) (l .k) (search needs) (c .if1 .left) (l .inv .1))
+    (search needs, nothing-step (c .before .before .before .before .args .table .now) (l .at) (search needs) (c .if1 .left) (l .inv .1))
 
 returns-2 : tie.Need-returns-2 Inv-loop μ-loop
 returns-2 c = record { most = search needs; here = λ h. absurd (omega arith); after = λ j h. c .before .loop .inv .1 j (omega arith) }
@@ -56,7 +56,7 @@ waiting-spec =
     mul-if1
     shared-slice-read-if1
     returns
-    sub-k
+    sub-at
     loop-less
     loop-again
     returns-2)

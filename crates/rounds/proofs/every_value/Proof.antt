@@ -3,7 +3,7 @@ use Prim.Native.Nat.{_-_, _*_, _≤_}
 use native.Mathlib.Omega.{arith}
 use lib.ListN.{length}
 use Rattle.laws.proofs.TableLaws.{words-of}
-use Rattle.rounds.proofs.ValueLaws.{Nonzero, nonzero-start, nonzero-step, looked-words, every-alive, no-length, no-number}
+use Rattle.rounds.proofs.ValueLaws.{Nonzero, nonzero-start, nonzero-step, looked-words, every-valued, no-length, no-number}
 use borrow.Author.Needs.{needs}
 use Rattle.rounds.proofs.every_value.Statement.{statement}
 use Rattle.rounds.proofs.every_value.Tie as tie
@@ -92,7 +92,7 @@ returns-3 c P wf es ln st =
     let whole : c .before .loop2 .i ≡ length T = omega arith in
     let f : Nonzero T (λ y. 64 * y) 0 (a .s) = rw all at (c .before .before .before .loop .inv .1) in
     let g : Nonzero T (λ k. k) (64 * a .s) (length T) = rw whole at (c .before .loop2 .inv .2) in
-    every-alive T (looked-words T (a .s) f g) (a .s) P wf es ln st f g
+    every-valued T (looked-words T (a .s) f g) (a .s) P wf es ln st f g
 
 pub every-value-spec : {M : Type 1} → statement M
 every-value-spec =

@@ -4,15 +4,14 @@ use Rattle.model.specs.Words.{size}
 use Rattle.laws.proofs.CallLaws.{lendable-length}
 use Rattle.format.specs.Accepting.{problemIn}
 use Rattle.format.proofs.ContentLaws.{usable-counts}
-use Rattle.list.proofs.WalkLaws.{Walked, walk-start}
-use Rattle.rounds.proofs.RoundWalks.{trims, Begins, begins-first, trim-room, trim-next, trim-few, trim-lent, round-lent, round-few, round-less}
-use Rattle.rounds.proofs.RoundWalks.{round-next, round-last}
+use Rattle.list.proofs.StepWalkLaws.{Walked, walk-start}
+use Rattle.rounds.proofs.RoundWalks.{trims, Begins, begins-first, trim-room, trim-next, trim-few, trim-lent, round-lent, round-few, round-less, round-next, round-last}
 use borrow.Author.Needs.{needs}
 use Rattle.rounds.proofs.settle.Statement.{statement}
 use Rattle.rounds.proofs.settle.Tie as tie
 use Rattle.rounds.proofs.settle.Reads as reads
 use Rattle.rounds.proofs.settle.Lts as lts
-use Rattle.list.proofs.all.Reads as all-reads
+use Rattle.list.proofs.own_steps.Reads as own-steps-reads
 use Rattle.list.proofs.of_file.Reads as of-file-reads
 use Rattle.steps.proofs.trim.Reads as trim-reads
 
@@ -69,8 +68,8 @@ loop2-again c =
 
 -- ---- the walk over the constraints
 
-all-requires : tie.Need-all-requires Inv-loop2 μ-loop2 Inv-loop μ-loop
-all-requires c κs =
+own-steps-requires : tie.Need-own-steps-requires Inv-loop2 μ-loop2 Inv-loop μ-loop
+own-steps-requires c κs =
     let l = c .before .before in
     let r = l .before in
     let u = r .before .before .before .before .pre .0 in
@@ -81,7 +80,7 @@ add-struck-2 c =
     let l = c .before .before .before .before .before in
     let r = l .before in
     let h = usable-counts _ _ (r .before .before .before .before .pre .0) in
-    omega (arith, round-few h (r .loop .inv) (l .loop2 .inv .1) (c .before .before .all .ensures))
+    omega (arith, round-few h (r .loop .inv) (l .loop2 .inv .1) (c .before .before .own-steps .ensures))
 
 -- ---- round after round
 
@@ -96,7 +95,7 @@ loop-less c =
     let l = a .before .before .before in
     let r = l .before in
     let h = usable-counts _ _ (r .before .before .before .before .pre .0) in
-    round-less h (r .loop .inv) (l .loop2 .inv .1) (a .all .ensures) (omega arith) (c .if1 .left)
+    round-less h (r .loop .inv) (l .loop2 .inv .1) (a .own-steps .ensures) (omega arith) (c .if1 .left)
 
 loop-again : tie.Need-loop-again Inv-loop2 μ-loop2 Inv-loop μ-loop
 loop-again c =
@@ -104,7 +103,7 @@ loop-again c =
     let l = a .before .before .before in
     let r = l .before in
     let h = usable-counts _ _ (r .before .before .before .before .pre .0) in
-    round-next h (r .loop .inv) (l .loop2 .inv .1) (a .all .ensures) (omega arith) (c .if1 .left)
+    round-next h (r .loop .inv) (l .loop2 .inv .1) (a .own-steps .ensures) (omega arith) (c .if1 .left)
 
 same-length : tie.Need-same-length Inv-loop2 μ-loop2 Inv-loop μ-loop
 same-length c =
@@ -112,7 +111,7 @@ same-length c =
     let l = a .before .before .before in
     let r = l .before in
     let s = r .before .before .before .before in
-    let lent = round-lent (usable-counts _ _ (s .pre .0)) (r .loop .inv) (l .loop2 .inv .1) (a .all .ensures) in
+    let lent = round-lent (usable-counts _ _ (s .pre .0)) (r .loop .inv) (l .loop2 .inv .1) (a .own-steps .ensures) in
     omega (arith, lendable-length _ _ lent, lendable-length _ _ (s .pre .1))
 
 returns : tie.Need-returns Inv-loop2 μ-loop2 Inv-loop μ-loop
@@ -121,7 +120,7 @@ returns c =
     let l = a .before .before .before in
     let r = l .before in
     let h = usable-counts _ _ (r .before .before .before .before .pre .0) in
-    round-last h (r .loop .inv) (l .loop2 .inv .1) (a .all .ensures) (omega arith) (c .if1 .taken)
+    round-last h (r .loop .inv) (l .loop2 .inv .1) (a .own-steps .ensures) (omega arith) (c .if1 .taken)
 
 pub settle-spec : {M : Type 1} → statement M
 settle-spec =
@@ -139,7 +138,7 @@ settle-spec =
     add-x
     loop2-less
     loop2-again
-    all-requires
+    own-steps-requires
     add-struck-2
     add-n
     loop-less

@@ -101,9 +101,9 @@ same-length-6 c = search needs
 returns-3 : tie.Need-returns-3 Inv-loop μ-loop
 returns-3 c =
     let l = c .before .loop .inv in
-    let k = c .before .before .before .before .before .before in
-    let s = k .before in
-    let bytes : Bytes (s .args .file .now) = λ i. k .shared-slice-known .given i .fits in
+    let at = c .before .before .before .before .before .before in
+    let s = at .before in
+    let bytes : Bytes (s .args .file .now) = λ i. at .shared-slice-known .given i .fits in
     exploring-spent _ _ _ _ _ _ _ (l .2) bytes (s .pre .0) (c .loop-test .left) _ (l .1)
 
 pub explore-spec : {M : Type 1} → statement M

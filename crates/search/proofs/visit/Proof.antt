@@ -2,14 +2,14 @@ use mathlib.Core.Path.{sym}
 use native.Mathlib.Omega.{arith}
 use lib.Seq.{length-take-le}
 use Rattle.format.proofs.ContentLaws.{usable-end, usable-bytes}
-use Rattle.search.proofs.VisitLaws.{Visiting, current-lendable, settled-tables, lent-length, strings-there, visit-alive, visit-dead}
+use Rattle.search.proofs.VisitLaws.{Visiting, current-lendable, settled-tables, lent-length, strings-there, visit-every-value, visit-dead}
 use borrow.Author.Needs.{needs}
 use Rattle.search.proofs.visit.Statement.{statement}
 use Rattle.search.proofs.visit.Tie as tie
 use Rattle.search.proofs.visit.Reads as reads
 use Rattle.search.proofs.visit.Lts as lts
-use Rattle.search.proofs.descend.Reads as descend-reads
-use Rattle.search.proofs.retreat.Reads as retreat-reads
+use Rattle.search.proofs.go_down.Reads as go-down-reads
+use Rattle.search.proofs.go_back.Reads as go-back-reads
 use Rattle.rounds.proofs.every_value.Reads as every-value-reads
 use Rattle.rounds.proofs.settle.Reads as settle-reads
 
@@ -47,8 +47,8 @@ every-value-requires c κs =
     let t = settled-tables v _ (c .before .before .before .settle .ensures .1) in
     strings-there v _ t
 
-descend-requires : tie.Need-descend-requires
-descend-requires c κs = search needs
+go-down-requires : tie.Need-go-down-requires
+go-down-requires c κs = search needs
 
 same-length : tie.Need-same-length
 same-length c = search needs
@@ -58,13 +58,13 @@ returns c =
     let e = c .before .before .before .before .before in
     let v = begun (e .before .before .before .before .before .before .before .before .before) in
     let t = settled-tables v _ (e .before .before .before .before .settle .ensures .1) in
-    visit-alive v _ t _ (e .every-value .ensures) (c .before .before .before .before .if1 .taken) _ _ (c .before .before .descend .ensures)
+    visit-every-value v _ t _ (e .every-value .ensures) (c .before .before .before .before .if1 .taken) _ _ (c .before .before .go-down .ensures)
 
-slice-aggregate-retreat : tie.Need-slice-aggregate-retreat
-slice-aggregate-retreat c = usable-end _ _ (c .before .before .before .before .before .before .before .before .before .before .before .before .pre .0)
+slice-aggregate-go-back : tie.Need-slice-aggregate-go-back
+slice-aggregate-go-back c = usable-end _ _ (c .before .before .before .before .before .before .before .before .before .before .before .before .pre .0)
 
-retreat-requires : tie.Need-retreat-requires
-retreat-requires c κs =
+go-back-requires : tie.Need-go-back-requires
+go-back-requires c κs =
     let s = c .before .before .before .before .before .before .before .before .before .before .before .before .before in
     (usable-bytes _ _ (s .pre .0), search needs)
 
@@ -76,7 +76,7 @@ returns-2 c =
     let e = c .before .before .before .before .before .before in
     let v = begun (e .before .before .before .before .before .before .before .before .before) in
     let t = settled-tables v _ (e .before .before .before .before .settle .ensures .1) in
-    visit-dead v _ t _ (e .every-value .ensures) (c .before .before .before .before .before .if1 .left) _ _ (c .before .before .retreat .ensures)
+    visit-dead v _ t _ (e .every-value .ensures) (c .before .before .before .before .before .if1 .left) _ _ (c .before .before .go-back .ensures)
 
 pub visit-spec : {M : Type 1} → statement M
 visit-spec =
@@ -90,10 +90,10 @@ visit-spec =
     slice-reshare-prefix-every-value
     slice-aggregate-every-value
     every-value-requires
-    descend-requires
+    go-down-requires
     same-length
     returns
-    slice-aggregate-retreat
-    retreat-requires
+    slice-aggregate-go-back
+    go-back-requires
     same-length-2
     returns-2)

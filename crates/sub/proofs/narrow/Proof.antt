@@ -6,8 +6,8 @@ use Rattle.model.specs.Words.{word}
 use Rattle.words.specs.Ends.{Highest, Lowest}
 use Rattle.rows.specs.Rows.{trimmed}
 use Rattle.rows.proofs.Fill.{array-words}
+use Rattle.laws.specs.Supported.{OfKinds}
 use Rattle.laws.proofs.WordLaws.{bit-high}
-use Rattle.laws.proofs.Supports.{OfKinds}
 use Rattle.sub.specs.Substrings.{Longest, PartAt, Supported}
 use Rattle.sub.proofs.TidyLaws.{trimmed-longest}
 use Rattle.sub.proofs.SubLaws.{sub-none, sub-narrowed}

@@ -19,7 +19,7 @@ use Rattle.sub.proofs.nothing.Reads as nothing-reads
 use Rattle.sub.proofs.parts.Reads as parts-reads
 use Rattle.sub.proofs.reach.Reads as reach-reads
 use Rattle.sub.proofs.wholes.Reads as wholes-reads
-use Rattle.words.proofs.single.Reads as single-reads
+use Rattle.words.proofs.singleton.Reads as singleton-reads
 
 reach-requires : tie.Need-reach-requires
 reach-requires c κs = search needs
@@ -69,11 +69,11 @@ parts-requires c κs =
     let far : c .before .before .before .reach .result ≤ a .top = search needs in
     (omega arith, search needs)
 
-add-single : tie.Need-add-single
-add-single c = search needs
+add-singleton : tie.Need-add-singleton
+add-singleton c = search needs
 
-single-requires : tie.Need-single-requires
-single-requires c κs = search needs
+singleton-requires : tie.Need-singleton-requires
+singleton-requires c κs = search needs
 
 returns-3 : tie.Need-returns-3
 returns-3 c longest low =
@@ -84,7 +84,7 @@ returns-3 c longest low =
     let wholes = c .before .before .before .wholes in
     let near : reach .result ≤ a .top = search needs in
     let far : reachOf (a .off) (a .least) ≤ a .top = rw (reach .ensures) at near in
-    rw (c .single .ensures, add-one)
+    rw (c .singleton .ensures, add-one)
     (start-right (a .x) (a .y) (a .n) (a .off) (a .least) low (a .top) longest allowed far (wholes .result) (c .before .parts .result) (array-words (wholes .result) (λ i. search needs)) (search needs)
     (rw (reach .ensures) at (wholes .ensures)) (c .before .parts .ensures))
 
@@ -100,6 +100,6 @@ part-at-spec =
     nothing-requires-2
     returns-2
     parts-requires
-    add-single
-    single-requires
+    add-singleton
+    singleton-requires
     returns-3)

@@ -4,7 +4,7 @@ use mathlib.Core.Logic.{⊎-elim}
 use native.Mathlib.Numerals.{add-one}
 use native.Mathlib.Omega.{arith}
 use Rattle.model.specs.Words.{word}
-use Rattle.laws.proofs.Supports.{OfKinds}
+use Rattle.laws.specs.Supported.{OfKinds}
 use Rattle.words.specs.Ends.{Lowest}
 use Rattle.sub.specs.Substrings.{PartAt, Longest, Supported}
 use Rattle.sub.proofs.SubLaws.{starts-none, starts-next, starts-skip}

@@ -5,7 +5,7 @@ use native.Mathlib.Omega.{arith}
 use lib.ListN.{length}
 use Rattle.model.specs.Layout.{little}
 use Rattle.model.specs.Reading.{pieces}
-use Rattle.laws.proofs.PartLaws.{Copied, copied-start, copied-step, copied-all}
+use Rattle.laws.proofs.SliceLaws.{Copied, copied-start, copied-step, copied-all}
 use Rattle.laws.proofs.ReadingLaws.{table-length, table-word}
 use borrow.Author.Needs.{needs}
 use Rattle.tables.proofs.unpack.Statement.{statement}

@@ -6,7 +6,7 @@ use Rattle.words.proofs.several.Tie as tie
 use Rattle.words.proofs.several.Reads as reads
 use Rattle.words.proofs.several.Lts as lts
 use Rattle.words.proofs.lowest.Reads as lowest-reads
-use Rattle.words.proofs.single.Reads as single-reads
+use Rattle.words.proofs.singleton.Reads as singleton-reads
 
 returns : tie.Need-returns
 returns c = rw (c .if1 .taken) (sym several-zero)
@@ -14,11 +14,11 @@ returns c = rw (c .if1 .taken) (sym several-zero)
 lowest-requires : tie.Need-lowest-requires
 lowest-requires c κs = search needs
 
-single-requires : tie.Need-single-requires
-single-requires c κs = search needs
+singleton-requires : tie.Need-singleton-requires
+singleton-requires c κs = search needs
 
 returns-2 : tie.Need-returns-2
-returns-2 c = rw (c .single .ensures) (several-lowest _ _ (c .before .before .before .fits .w .fits) (c .before .lowest .ensures))
+returns-2 c = rw (c .singleton .ensures) (several-lowest _ _ (c .before .before .before .fits .w .fits) (c .before .lowest .ensures))
 
 pub several-spec : {M : Type 1} → statement M
-several-spec = tie.close (tie.spec returns lowest-requires single-requires returns-2)
+several-spec = tie.close (tie.spec returns lowest-requires singleton-requires returns-2)

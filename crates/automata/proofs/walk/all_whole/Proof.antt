@@ -2,7 +2,7 @@ use mathlib.Core.Path.{sym, _∙_}
 use Prim.Native.Nat.{_-_}
 use native.Mathlib.Omega.{arith}
 use borrow.Author.Tests.{not-true, not-false}
-use Rattle.automata.proofs.WalkLaws.{present-whole, Walked, walked-none, walked-stop, walked-next, walked-end}
+use Rattle.automata.proofs.AutomataWalkLaws.{present-whole, Walked, walked-none, walked-stop, walked-next, walked-end}
 use borrow.Author.Needs.{needs}
 use Rattle.automata.proofs.walk.all_whole.Statement.{statement}
 use Rattle.automata.proofs.walk.all_whole.Tie as tie

@@ -1,7 +1,7 @@
 use mathlib.Core.Path.{_≡_, sym}
 use Prim.Native.Nat.{_+_, _-_, _≤_}
 use native.Mathlib.Omega.{arith}
-use Rattle.automata.proofs.WalkLaws.{Below, below-none, below-next, all-below, one-above}
+use Rattle.automata.proofs.AutomataWalkLaws.{Below, below-none, below-next, all-below, one-above}
 use borrow.Author.Needs.{needs}
 use Rattle.automata.proofs.walk.moves_below.Statement.{statement}
 use Rattle.automata.proofs.walk.moves_below.Tie as tie

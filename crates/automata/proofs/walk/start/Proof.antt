@@ -1,7 +1,7 @@
 use mathlib.Core.Path.{_≡_}
 use Prim.Native.Nat.{_-_, _≤_}
 use native.Mathlib.Omega.{arith}
-use Rattle.automata.proofs.WalkLaws.{Reached, reached-none, lent-whole, lent-inside, reached-next, reached-start}
+use Rattle.automata.proofs.AutomataWalkLaws.{Reached, reached-none, lent-whole, lent-inside, reached-next, reached-start}
 use borrow.Author.Needs.{needs}
 use Rattle.automata.proofs.walk.start.Statement.{statement}
 use Rattle.automata.proofs.walk.start.Tie as tie

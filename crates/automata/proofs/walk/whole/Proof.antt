@@ -5,7 +5,7 @@ use native.Mathlib.Omega.{arith}
 use borrow.Author.Tests.{not-true, not-false}
 use Rattle.model.specs.Words.{noneFrom}
 use Rattle.automata.proofs.MachineLaws.{cells-few}
-use Rattle.automata.proofs.WalkLaws.{not-whole, whole-by-moves}
+use Rattle.automata.proofs.AutomataWalkLaws.{not-whole, whole-by-moves}
 use borrow.Author.Needs.{needs}
 use Rattle.automata.proofs.walk.whole.Statement.{statement}
 use Rattle.automata.proofs.walk.whole.Tie as tie

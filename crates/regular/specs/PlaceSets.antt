@@ -5,10 +5,10 @@ use mathlib.Core.List.{List}
 use Prim.Native.Nat.{ℕ, suc, _≤_, _<_}
 use Rattle.model.specs.Words.{bit, word, noneFrom}
 use Rattle.model.specs.Constraints.{Automaton, move}
-use Rattle.automata.specs.Sets.{Gathered}
+use Rattle.automata.specs.StateSets.{Gathered}
 use Rattle.regular.specs.Paths.{Reach, Ends}
 
--- "a symbol word has a bit at k or above": none of this row has
+-- "a symbol word … has a bit at k or above": none of this row has
 pub record Alphabet (k : ℕ) (x : List ℕ) : Type 0 where
   pub below : (j : ℕ) → j < 63 → noneFrom k (word x (suc j)) ≡ true
 

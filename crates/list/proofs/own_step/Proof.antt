@@ -1,5 +1,5 @@
--- `list::nth` meets its contract: a walk of its MIR, by hand. The array is laid out in memory and lent as a slice, for a lifetime that the walk makes, to `at`,
--- and comes back as it was. All that the proof knows of `at` is that it meets its contract.
+-- `list::own_step` meets its contract: a walk of its MIR, by hand. The array is laid out in memory and lent as a slice, for a lifetime that the walk makes, to `lent_step`,
+-- and comes back as it was. All that the proof knows of `lent_step` is that it meets its contract.
 --
 -- Assumes nothing.
 use mathlib.Core.Path.{_≡_, refl, sym, subst}
@@ -49,7 +49,7 @@ use denote.Triple.Walked.{says, needs, Stays, stay-none-slice, stay-none, gave-s
 use denote.Triple.Walked.{goes-gave-slice, walk-meets}
 use denote.Exit.{yes}
 use Rattle.model.specs.Constraints.{always}
-use Rattle.laws.proofs.CallLaws.{lendable}
+use Rattle.laws.specs.Lent.{lendable}
 use Rattle.layout.specs.declared.Parts.{Parts}
 use Rattle.layout.proofs.Parts as P
 use Rattle.layout.proofs.Parts.Laws as P′
@@ -60,14 +60,14 @@ use Rattle.list.specs.declared.Constraint.{Constraint}
 use Rattle.list.proofs.LendingLaws.{Listing, array, av, Elements, lays, backs}
 use Rattle.list.proofs.Constraint as T
 use Rattle.list.proofs.Constraint.Laws as T′
-use Rattle.list.proofs.at as callee
-use Rattle.list.proofs.at.Symbol as callee-def
-use Rattle.list.proofs.at.Symbol.{name as #list·at}
-use Rattle.list.proofs.at.Met as callee-thm
-use Rattle.list.proofs.nth.Key.{name as #list·nth}
-use Rattle.list.proofs.nth as fn
-use Rattle.list.proofs.nth.Statement as stated
-use Rattle.list.proofs.nth.Code as code
+use Rattle.list.proofs.lent_step as callee
+use Rattle.list.proofs.lent_step.Symbol as callee-def
+use Rattle.list.proofs.lent_step.Symbol.{name as #list·lent-step}
+use Rattle.list.proofs.lent_step.Met as callee-thm
+use Rattle.list.proofs.own_step.Key.{name as #list·own-step}
+use Rattle.list.proofs.own_step as fn
+use Rattle.list.proofs.own_step.Statement as stated
+use Rattle.list.proofs.own_step.Code as code
 
 abbrev stayed : Stays (fn.ended .signature .params) (fn.ended .kept)
 stayed = (
@@ -86,8 +86,8 @@ stayed = (
 
 module _ {M : Type 1} (𝓤 : URA M) (H : Heap 𝓤) (A : Atoms 𝓤) (mem : Memory → SProp 𝓤) (run : Routine → Fun 𝓤) where
   -- the contract that the proof cites
-  abbrev At : Contract 𝓤
-  At = tripleOf 𝓤 H A callee.signature (callee.spec 𝓤 H A mem run)
+  abbrev Callee : Contract 𝓤
+  Callee = tripleOf 𝓤 H A callee.signature (callee.spec 𝓤 H A mem run)
 
 module _ {M : Type 1} (𝓤 : URA M) (H : Heap 𝓤) (A : Atoms 𝓤) (W : Given 𝓤 H A) (mem : Memory → SProp 𝓤) (run : Routine → Fun 𝓤) (κf κt : Lft) (qf qt : Share)
     (bounds : AllOutlive 2 (fn.signature .outlives) (κf, (κt, tt))) (cs : List Constraint) (full : length cs ≡ 64) (i : ℕ) (i-fits : i < 2 ^ 64)
@@ -136,7 +136,7 @@ module _ {M : Type 1} (𝓤 : URA M) (H : Heap 𝓤) (A : Atoms 𝓤) (W : Given
   abbrev passed : (α b : ℕ) → Vals callee.signature (α ∷ [], (κf, (κt, tt)))
   passed α b = (sliceVal (b, 0) 64 ∷ [], (vint w64 i ∷ [], (m ∷ [], (pm ∷ [], (s ∷ [], tt)))))
 
-  abbrev to : ℕ → ℕ → GName → At 𝓤 H A mem run .Ghost
+  abbrev to : ℕ → ℕ → GName → Callee 𝓤 H A mem run .Ghost
   to α b δ = (((α ∷ [], (κf, (κt, tt))), (fullShare, (qf, (qt, tt))), tt, passes b δ, passed α b), tt)
 
   -- the `requires`, and what the callee says
@@ -148,7 +148,7 @@ module _ {M : Type 1} (𝓤 : URA M) (H : Heap 𝓤) (A : Atoms 𝓤) (W : Given
 
   asked : (α b : ℕ) (δ : GName) → Pre → ent 𝓤 (sep 𝓤 (sep 𝓤 (A .lft (α ∷ []) fullShare) (sep 𝓤 (A .lft κf qf) (sep 𝓤 (A .lft κt qt) (sem 𝓤 H A ftrue))))
       (sem 𝓤 H A (owns (ShrSlice (named 0) (α ∷ []) T.the-row ∷ usize ∷ ShrSlice (named 1) κf u8 ∷ P.the-row ∷ MutSlice (named 2) κt u64 ∷ []) (passes b δ)
-      (passed α b)))) (At 𝓤 H A mem run .pre (to α b δ))
+      (passed α b)))) (Callee 𝓤 H A mem run .pre (to α b δ))
   asked α b δ h =
       qed W ((‵ (flft (α ∷ []) fullShare) ⊛ ‵ (flft κf qf) ⊛ ‵ (flft κt qt) ⊛ ‵ ftrue)
       ∷ ‵ (owns (ShrSlice (named 0) (α ∷ []) T.the-row ∷ usize ∷ ShrSlice (named 1) κf u8 ∷ P.the-row ∷ MutSlice (named 2) κt u64 ∷ []) (passes b δ)
@@ -177,7 +177,7 @@ module _ {M : Type 1} (𝓤 : URA M) (H : Heap 𝓤) (A : Atoms 𝓤) (W : Given
       says ! said $ move ! (1 ∷ []) $ frame ! $ nothing ! $ move ! (2 ∷ 0 ∷ []) $ fjoin ! $ move ! (4 ∷ 0 ∷ []) $ fjoin ! $ move ! (3 ∷ 0 ∷ []) $ fjoin ! $
       owned ! usize (Is usize) (uint-makes 𝓤 H A W w64) i _ (refl, i-fits) $ fjoin ! $ move ! (2 ∷ 0 ∷ []) $ fjoin ! $ frame ! $ done !
 
-  module _ (C : Calls 𝓤 H) (Λ : Loops 𝓤 H) (fm : FmC 𝓤 H (W .laws) C) (known : Triple 𝓤 (C #list·at) (At 𝓤 H A mem run)) where
+  module _ (C : Calls 𝓤 H) (Λ : Loops 𝓤 H) (fm : FmC 𝓤 H (W .laws) C) (known : Triple 𝓤 (C #list·lent-step) (Callee 𝓤 H A mem run)) where
     walk : Holds (hasTy array am) × WT am → Room u8 (length bytes) → Holds (hasTy P′.mir pm) × WT pm → Room u64 (length ts) → Pre
         → ent 𝓤 (onEntry 𝓤 H A fn.signature (κf, (κt, tt)) (qf, (qt, tt)) x at) (WpFn 𝓤 H C Λ code.function (am ∷ vint w64 i ∷ m ∷ pm ∷ s ∷ []) Post)
     walk ga gf gp gt h =
@@ -218,9 +218,9 @@ module _ {M : Type 1} (𝓤 : URA M) (H : Heap 𝓤) (A : Atoms 𝓤) (W : Given
         move ! (2 ∷ []) $ fsplit ! $
         use1 W (‵ (P.the-row .own p (pm ∷ [])) ⊛ ‵ (P.the-row .own p (pm ∷ []))) (LL.copy P.the-type P′.the-copy 𝓤 H A W .twice p (pm ∷ [])) $ split ! $
         move ! (0 ∷ 2 ∷ []) $ fjoin ! $ move ! (2 ∷ 0 ∷ []) $ fjoin ! $ owned ! usize (Is usize) (uint-makes 𝓤 H A W w64) i _ (refl, i-fits) $ fjoin ! $
-        move ! (3 ∷ 0 ∷ []) $ fjoin ! $ move ! (4 ∷ 6 ∷ []) $ join ! $ use2 W (raw (At 𝓤 H A mem run .pre (to α l₆ δ))) (asked α l₆ δ h) $
+        move ! (3 ∷ 0 ∷ []) $ fjoin ! $ move ! (4 ∷ 6 ∷ []) $ join ! $ use2 W (raw (Callee 𝓤 H A mem run .pre (to α l₆ δ))) (asked α l₆ δ h) $
         -- [what the callee asks; what p owns; what the file owns; the lender's part; what the array owns; _10; …]
-        calls-at ! fm (At 𝓤 H A mem run) known (to α l₆ δ) (and-then ! (load ! (from ! (stop !)) (look ! 9 refl)) (and-then ! (load ! (from ! (stop !))
+        calls-at ! fm (Callee 𝓤 H A mem run) known (to α l₆ δ) (and-then ! (load ! (from ! (stop !)) (look ! 9 refl)) (and-then ! (load ! (from ! (stop !))
         (look ! 20 refl)) (and-then ! (load ! (from ! (stop !)) (look ! 18 refl)) (and-then ! (load ! (from ! (stop !)) (look ! 16 refl)) (and-then ! (load !
         (from ! (stop !)) (look ! 5 refl)) (no-more !)))))) (λ u.
         use1 W (later (any (λ (r : ℕ). ((‵ (flft (α ∷ []) fullShare) ⊛ ‵ (flft κf qf) ⊛ ‵ (flft κt qt) ⊛ ‵ ftrue) ⊛ ‵ (u32 .own r (u ∷ []))) ⊛ raw
@@ -244,7 +244,7 @@ module _ {M : Type 1} (𝓤 : URA M) (H : Heap 𝓤) (A : Atoms 𝓤) (W : Given
         keep ! (1 ∷ 0 ∷ 2 ∷ 6 ∷ 5 ∷ 4 ∷ []) $ by ! (exits r u (zs .1 .1 .1 .1 .0) said same))))))))))))))))))))
 
 module _ {M : Type 1} (𝓤 : URA M) (H : Heap 𝓤) (A : Atoms 𝓤) (W : Given 𝓤 H A) (mem : Memory → SProp 𝓤) (run : Routine → Fun 𝓤) where
-  fn-walks : (C : Calls 𝓤 H) (Λ : Loops 𝓤 H) → FmC 𝓤 H (W .laws) C → Triple 𝓤 (C #list·at) (At 𝓤 H A mem run) → Walks 𝓤 H A fn.ended stayed
+  fn-walks : (C : Calls 𝓤 H) (Λ : Loops 𝓤 H) → FmC 𝓤 H (W .laws) C → Triple 𝓤 (C #list·lent-step) (Callee 𝓤 H A mem run) → Walks 𝓤 H A fn.ended stayed
       (WpFn 𝓤 H C Λ code.function) (fn.clauses 𝓤 H A mem run)
   fn-walks C Λ fm known = walked 𝓤 H A fn.ended stayed (fn.clauses 𝓤 H A mem run) (WpFn 𝓤 H C Λ code.function)
       (λ κs. (array-vals (LL.vals T.the-type T′.the-laws), (uint-vals w64, (slice-vals, (LL.vals P.the-type P′.the-laws, (slice-vals, tt))))))
@@ -268,7 +268,7 @@ module _ {M : Type 1} (𝓤 : URA M) (H : Heap 𝓤) (A : Atoms 𝓤) (W : Given
       (LL.lawful P.the-type P′.the-laws 𝓤 H A W .typed (a .1 .1 .1 .0) _ (are .1 .1 .1 .0) .0) (are .1 .1 .1 .1 .0 .0 .1)))
 
 fn-meets : {M : Type 1} (𝓤 : URA M) (H : Heap 𝓤) (A : Atoms 𝓤) → Given 𝓤 H A → (mem : Memory → SProp 𝓤) (run : Routine → Fun 𝓤) (𝓣 : Tables 𝓤 H) → Triple 𝓤
-    (𝓣 .C #list·at) (At 𝓤 H A mem run)
+    (𝓣 .C #list·lent-step) (Callee 𝓤 H A mem run)
     → Meets 𝓤 H A fn.signature (WpFn 𝓤 H (𝓣 .C) (𝓣 .Λ) code.function) (fn.spec 𝓤 H A mem run)
 fn-meets 𝓤 H A W mem run 𝓣 known = walk-meets 𝓤 H A fn.ended stayed W (
   goes-none 𝓤 H A W 2 (λ _. Listing) yes (λ κs x f. refl),
@@ -284,10 +284,10 @@ fn-meets 𝓤 H A W mem run 𝓣 known = walk-meets 𝓤 H A fn.ended stayed W (
     (fn.clauses 𝓤 H A mem run) (WpFn 𝓤 H (𝓣 .C) (𝓣 .Λ) code.function) (WpFn-mono 𝓤 H (W .laws) 𝓣 code.function) (fn-walks 𝓤 H A W mem run (𝓣 .C) (𝓣 .Λ)
     (fmOf 𝓤 H (W .laws) 𝓣) known)
 
-pub nth-spec : {M : Type 1} → stated.statement M
+pub own-step-spec : {M : Type 1} → stated.statement M
 unfolding code.routine tablesOf
-nth-spec 𝓤 H 𝓜 𝓖 𝓡 =
+own-step-spec 𝓤 H 𝓜 𝓖 𝓡 =
     entered 𝓤 H (tripleOf 𝓤 H (𝓖 .A) fn.signature (fn.spec 𝓤 H (𝓖 .A) (𝓜 .mem) (𝓡 .run)))
-    (tables 𝓤 H 𝓜 𝓡 code.env .C) (tables 𝓤 H 𝓜 𝓡 code.env .Λ) #list·nth code.function (code.unfolded 𝓤 H 𝓜 𝓡)
+    (tables 𝓤 H 𝓜 𝓡 code.env .C) (tables 𝓤 H 𝓜 𝓡 code.env .Λ) #list·own-step code.function (code.unfolded 𝓤 H 𝓜 𝓡)
     (fn-meets 𝓤 H (𝓖 .A) (givenOf 𝓤 H 𝓜 𝓖) (𝓜 .mem) (𝓡 .run) (tablesOf 𝓤 H 𝓜 (tables 𝓤 H 𝓜 𝓡 code.env))
-    (cited 𝓤 H (At 𝓤 H (𝓖 .A) (𝓜 .mem) (𝓡 .run)) 𝓜 𝓡 code.env #list·at callee-def.routine code.calls-list·at (callee-thm.met 𝓤 H 𝓜 𝓖 𝓡)))
+    (cited 𝓤 H (Callee 𝓤 H (𝓖 .A) (𝓜 .mem) (𝓡 .run)) 𝓜 𝓡 code.env #list·lent-step callee-def.routine code.calls-list·lent-step (callee-thm.met 𝓤 H 𝓜 𝓖 𝓡)))

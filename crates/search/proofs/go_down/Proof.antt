@@ -3,10 +3,10 @@ use native.Mathlib.Omega.{arith}
 use lib.Seq.{length-take-le}
 use Rattle.search.proofs.VisitLaws.{solved-here, down-there, down-next}
 use borrow.Author.Needs.{needs}
-use Rattle.search.proofs.descend.Statement.{statement}
-use Rattle.search.proofs.descend.Tie as tie
-use Rattle.search.proofs.descend.Reads as reads
-use Rattle.search.proofs.descend.Lts as lts
+use Rattle.search.proofs.go_down.Statement.{statement}
+use Rattle.search.proofs.go_down.Tie as tie
+use Rattle.search.proofs.go_down.Reads as reads
+use Rattle.search.proofs.go_down.Lts as lts
 use Rattle.room.proofs.branch.Reads as branch-reads
 use Rattle.room.proofs.down.Reads as down-reads
 
@@ -37,8 +37,8 @@ returns-2 c =
     let b = e .before in
     down-next _ _ (b .before .before .before .pre) _ (b .branch .ensures) (e .if1 .left) _ (c .before .before .down .ensures)
 
-pub descend-spec : {M : Type 1} → statement M
-descend-spec =
+pub go-down-spec : {M : Type 1} → statement M
+go-down-spec =
     tie.close
     (tie.spec
     slice-reshare-prefix-branch

@@ -13,7 +13,7 @@ use Rattle.layout.specs.declared.Parts.{Parts}
 use Rattle.layout.specs.Replied.{partsOf, PartsFit}
 use Rattle.records.specs.Records.{refusalOf}
 use Rattle.format.specs.Accepting.{numberOf}
-use Rattle.format.proofs.RefusalLaws.{number-automata, number-table, number-records}
+use Rattle.format.proofs.RefusalOrderLaws.{number-automata, number-table, number-records}
 
 -- what looking at the table asks
 pub rows-there : (file : List ℕ) (p : Parts) → PartsFit file p → (1 ≤ p .k) × (p .k ≤ 64) × (p .s ≤ 16) × (8 * (64 * p .s) ≤ length (take (p .«constraints_at») file))

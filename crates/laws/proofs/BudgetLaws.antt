@@ -15,7 +15,8 @@ use Rattle.model.specs.Solutions.{Solution, tableOf, WellFormed}
 use Rattle.model.specs.Order.{First}
 use Rattle.model.specs.Tree.{solved, nodes, numbered, firstSolved, found, none, spent, Search, hit, miss, searching}
 use Rattle.model.specs.Claim.{NoneSolved}
-use Rattle.laws.proofs.ListLaws.{In}
+use Rattle.laws.specs.Inclusion.{In}
+use Rattle.laws.specs.Traversal.{visit}
 use Rattle.laws.proofs.TreeLaws.{FirstIn, here, later, none-cons, none-some, complete, first}
 
 pub none≢found : {i n : ℕ} → none i ≡ found n → ⊥
@@ -28,12 +29,6 @@ pub spent≢found : {i n : ℕ} → spent i ≡ found n → ⊥
 spent≢found {i} {n} e = let z : _≡_ {A = ℕ} 0 1 = cc in omega arith
 
 -- ---- the search as a walk along the nodes
-
--- the nodes are those after the first i, and b more may be visited
-unfoldable pub visit : Problem → List ℕ → ℕ → ℕ → List (List ℕ) → Search
-visit P A i b [] = record { outcome = none i; table = A }
-visit P A i zero (S ∷ ns) = record { outcome = spent i; table = A }
-visit P A i (suc b) (S ∷ ns) = let r = visit P A (suc i) b ns in cond (solved P S) (record { outcome = found (suc i); table = S }) r
 
 module _ (P : Problem) (A : List ℕ) where
   -- the first solved node of those numbered from n on, against a budget, where the whole tree has `count` nodes

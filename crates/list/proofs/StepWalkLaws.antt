@@ -11,10 +11,11 @@ use Rattle.model.specs.Words.{size}
 use Rattle.model.specs.Constraints.{Problem, Constraint, always}
 use Rattle.model.specs.Support.{narrowed}
 use Rattle.model.specs.Rounds.{run}
+use Rattle.laws.specs.Lent.{lendable}
 use Rattle.laws.proofs.TableLaws.{below-of-eq, below-trans, struck-size}
 use Rattle.laws.proofs.SupportLaws.{narrowed-below}
 use Rattle.laws.proofs.RoundLaws.{run-below, run-append}
-use Rattle.laws.proofs.CallLaws.{lendable, lendable-below}
+use Rattle.laws.proofs.CallLaws.{lendable-below}
 use Rattle.steps.specs.Step.{Step}
 use Rattle.list.specs.Listing.{Ran}
 

@@ -11,11 +11,12 @@ use Rattle.model.specs.Lists.{any}
 use Rattle.model.specs.Words.{bit, bits, several, word, Words}
 use Rattle.model.specs.Solutions.{textBit}
 use Rattle.rows.proofs.TrimLaws.{allowed-strings, supported-in}
+use Rattle.laws.specs.Inclusion.{Single}
+use Rattle.laws.specs.Supported.{InRow, Supports}
 use Rattle.laws.proofs.ListLaws.{of-any, in-any, getD-in, in-getD}
 use Rattle.laws.proofs.WordLaws.{zero-bit, within-antisym}
-use Rattle.laws.proofs.BitsLaws.{Single, several-true, several-false, two-bits}
-use Rattle.laws.proofs.RowLaws.{InRow, used-once, same-strings}
-use Rattle.laws.proofs.Supports.{Supports}
+use Rattle.laws.proofs.BitsLaws.{several-true, several-false, two-bits}
+use Rattle.laws.proofs.RowLaws.{used-once, same-strings}
 
 -- ---- the test
 

@@ -1,6 +1,6 @@
--- `list::all` meets its contract: a walk of its MIR, by hand. The array is laid out in memory and lent as a slice, for a lifetime that the walk makes, to
--- `each`,
--- and comes back as it was. All that the proof knows of `each` is that it meets its contract.
+-- `list::own_steps` meets its contract: a walk of its MIR, by hand. The array is laid out in memory and lent as a slice, for a lifetime that the walk makes, to
+-- `lent_steps`,
+-- and comes back as it was. All that the proof knows of `lent_steps` is that it meets its contract.
 --
 -- Assumes nothing.
 use mathlib.Core.Path.{_≡_, refl, sym, subst}
@@ -49,7 +49,7 @@ use denote.Triple.Clauses.{ensured, lasts}
 use denote.Triple.Walked.{says, needs, Stays, stay-none-slice, stay-none, gave-slice, walkOf, Walks, ends-at, walked, goes-none-slice, goes-none}
 use denote.Triple.Walked.{goes-gave-slice, walk-meets}
 use denote.Exit.{yes}
-use Rattle.laws.proofs.CallLaws.{lendable}
+use Rattle.laws.specs.Lent.{lendable}
 use Rattle.layout.specs.declared.Parts.{Parts}
 use Rattle.layout.proofs.Parts as P
 use Rattle.layout.proofs.Parts.Laws as P′
@@ -59,14 +59,14 @@ use Rattle.list.specs.declared.Constraint.{Constraint}
 use Rattle.list.proofs.LendingLaws.{Listing, array, av, Elements, lays, backs}
 use Rattle.list.proofs.Constraint as T
 use Rattle.list.proofs.Constraint.Laws as T′
-use Rattle.list.proofs.each as callee
-use Rattle.list.proofs.each.Symbol as callee-def
-use Rattle.list.proofs.each.Symbol.{name as #list·each}
-use Rattle.list.proofs.each.Met as callee-thm
-use Rattle.list.proofs.all.Key.{name as #list·all}
-use Rattle.list.proofs.all as fn
-use Rattle.list.proofs.all.Statement as stated
-use Rattle.list.proofs.all.Code as code
+use Rattle.list.proofs.lent_steps as callee
+use Rattle.list.proofs.lent_steps.Symbol as callee-def
+use Rattle.list.proofs.lent_steps.Symbol.{name as #list·lent-steps}
+use Rattle.list.proofs.lent_steps.Met as callee-thm
+use Rattle.list.proofs.own_steps.Key.{name as #list·own-steps}
+use Rattle.list.proofs.own_steps as fn
+use Rattle.list.proofs.own_steps.Statement as stated
+use Rattle.list.proofs.own_steps.Code as code
 
 abbrev stayed : Stays (fn.ended .signature .params) (fn.ended .kept)
 stayed = (
@@ -86,8 +86,8 @@ stayed = (
 
 module _ {M : Type 1} (𝓤 : URA M) (H : Heap 𝓤) (A : Atoms 𝓤) (mem : Memory → SProp 𝓤) (run : Routine → Fun 𝓤) where
   -- the contract that the proof cites
-  abbrev Each : Contract 𝓤
-  Each = tripleOf 𝓤 H A callee.signature (callee.spec 𝓤 H A mem run)
+  abbrev Callee : Contract 𝓤
+  Callee = tripleOf 𝓤 H A callee.signature (callee.spec 𝓤 H A mem run)
 
 module _ {M : Type 1} (𝓤 : URA M) (H : Heap 𝓤) (A : Atoms 𝓤) (W : Given 𝓤 H A) (mem : Memory → SProp 𝓤) (run : Routine → Fun 𝓤) (κf κt : Lft) (qf qt : Share)
     (bounds : AllOutlive 2 (fn.signature .outlives) (κf, (κt, tt))) (cs : List Constraint) (full : length cs ≡ 64)
@@ -136,7 +136,7 @@ module _ {M : Type 1} (𝓤 : URA M) (H : Heap 𝓤) (A : Atoms 𝓤) (W : Given
   abbrev passed : (α b : ℕ) → Vals callee.signature (α ∷ [], (κf, (κt, tt)))
   passed α b = (sliceVal (b, 0) 64 ∷ [], (m ∷ [], (pm ∷ [], (s ∷ [], tt))))
 
-  abbrev to : ℕ → ℕ → GName → Each 𝓤 H A mem run .Ghost
+  abbrev to : ℕ → ℕ → GName → Callee 𝓤 H A mem run .Ghost
   to α b δ = (((α ∷ [], (κf, (κt, tt))), (fullShare, (qf, (qt, tt))), tt, passes b δ, passed α b), tt)
 
   -- the `requires`, and what the callee says
@@ -148,7 +148,7 @@ module _ {M : Type 1} (𝓤 : URA M) (H : Heap 𝓤) (A : Atoms 𝓤) (W : Given
 
   asked : (α b : ℕ) (δ : GName) → Pre → ent 𝓤 (sep 𝓤 (sep 𝓤 (A .lft (α ∷ []) fullShare) (sep 𝓤 (A .lft κf qf) (sep 𝓤 (A .lft κt qt) (sem 𝓤 H A ftrue))))
       (sem 𝓤 H A (owns (ShrSlice (named 0) (α ∷ []) T.the-row ∷ ShrSlice (named 1) κf u8 ∷ P.the-row ∷ MutSlice (named 2) κt u64 ∷ []) (passes b δ)
-      (passed α b)))) (Each 𝓤 H A mem run .pre (to α b δ))
+      (passed α b)))) (Callee 𝓤 H A mem run .pre (to α b δ))
   asked α b δ h =
       qed W ((‵ (flft (α ∷ []) fullShare) ⊛ ‵ (flft κf qf) ⊛ ‵ (flft κt qt) ⊛ ‵ ftrue)
       ∷ ‵ (owns (ShrSlice (named 0) (α ∷ []) T.the-row ∷ ShrSlice (named 1) κf u8 ∷ P.the-row ∷ MutSlice (named 2) κt u64 ∷ []) (passes b δ) (passed α b))
@@ -174,7 +174,7 @@ module _ {M : Type 1} (𝓤 : URA M) (H : Heap 𝓤) (A : Atoms 𝓤) (W : Given
       says ! said $ move ! (1 ∷ []) $ frame ! $ nothing ! $ move ! (2 ∷ 0 ∷ []) $ fjoin ! $ move ! (4 ∷ 0 ∷ []) $ fjoin ! $ move ! (3 ∷ 0 ∷ []) $ fjoin ! $
       move ! (2 ∷ 0 ∷ []) $ fjoin ! $ frame ! $ done !
 
-  module _ (C : Calls 𝓤 H) (Λ : Loops 𝓤 H) (fm : FmC 𝓤 H (W .laws) C) (known : Triple 𝓤 (C #list·each) (Each 𝓤 H A mem run)) where
+  module _ (C : Calls 𝓤 H) (Λ : Loops 𝓤 H) (fm : FmC 𝓤 H (W .laws) C) (known : Triple 𝓤 (C #list·lent-steps) (Callee 𝓤 H A mem run)) where
     walk : Holds (hasTy array am) × WT am → Room u8 (length bytes) → Holds (hasTy P′.mir pm) × WT pm → Room u64 (length ts) → Pre
         → ent 𝓤 (onEntry 𝓤 H A fn.signature (κf, (κt, tt)) (qf, (qt, tt)) x at) (WpFn 𝓤 H C Λ code.function (am ∷ m ∷ pm ∷ s ∷ []) Post)
     walk ga gf gp gt h =
@@ -214,9 +214,9 @@ module _ {M : Type 1} (𝓤 : URA M) (H : Heap 𝓤) (A : Atoms 𝓤) (W : Given
         move ! (2 ∷ []) $ fsplit ! $
         use1 W (‵ (P.the-row .own p (pm ∷ [])) ⊛ ‵ (P.the-row .own p (pm ∷ []))) (LL.copy P.the-type P′.the-copy 𝓤 H A W .twice p (pm ∷ [])) $ split ! $
         move ! (0 ∷ 2 ∷ []) $ fjoin ! $ move ! (2 ∷ 0 ∷ []) $ fjoin ! $ move ! (3 ∷ 0 ∷ []) $ fjoin ! $ move ! (4 ∷ 6 ∷ []) $ join ! $
-        use2 W (raw (Each 𝓤 H A mem run .pre (to α l₅ δ))) (asked α l₅ δ h) $
+        use2 W (raw (Callee 𝓤 H A mem run .pre (to α l₅ δ))) (asked α l₅ δ h) $
         -- [what the callee asks; what p owns; what the file owns; the lender's part; what the array owns; _9; …]
-        calls-at ! fm (Each 𝓤 H A mem run) known (to α l₅ δ) (and-then ! (load ! (from ! (stop !)) (look ! 9 refl)) (and-then ! (load ! (from ! (stop !))
+        calls-at ! fm (Callee 𝓤 H A mem run) known (to α l₅ δ) (and-then ! (load ! (from ! (stop !)) (look ! 9 refl)) (and-then ! (load ! (from ! (stop !))
         (look ! 18 refl)) (and-then ! (load ! (from ! (stop !)) (look ! 16 refl)) (and-then ! (load ! (from ! (stop !)) (look ! 5 refl)) (no-more !))))) (λ u.
         use1 W (later (any (λ (r : ℕ). ((‵ (flft (α ∷ []) fullShare) ⊛ ‵ (flft κf qf) ⊛ ‵ (flft κt qt) ⊛ ‵ ftrue) ⊛ ‵ (u32 .own r (u ∷ []))) ⊛ raw
         (ensured 𝓤 H A callee.ended (callee.clauses 𝓤 H A mem run) (α ∷ [], (κf, (κt, tt))) (passes l₅ δ) tt r)))) (id⊢ 𝓤 _) $ await ! tt $ pick ! (λ r.
@@ -239,7 +239,7 @@ module _ {M : Type 1} (𝓤 : URA M) (H : Heap 𝓤) (A : Atoms 𝓤) (W : Given
         keep ! (1 ∷ 0 ∷ 2 ∷ 6 ∷ 5 ∷ 4 ∷ []) $ by ! (exits r u (zs .1 .1 .1 .0) said same)))))))))))))))))))
 
 module _ {M : Type 1} (𝓤 : URA M) (H : Heap 𝓤) (A : Atoms 𝓤) (W : Given 𝓤 H A) (mem : Memory → SProp 𝓤) (run : Routine → Fun 𝓤) where
-  fn-walks : (C : Calls 𝓤 H) (Λ : Loops 𝓤 H) → FmC 𝓤 H (W .laws) C → Triple 𝓤 (C #list·each) (Each 𝓤 H A mem run) → Walks 𝓤 H A fn.ended stayed
+  fn-walks : (C : Calls 𝓤 H) (Λ : Loops 𝓤 H) → FmC 𝓤 H (W .laws) C → Triple 𝓤 (C #list·lent-steps) (Callee 𝓤 H A mem run) → Walks 𝓤 H A fn.ended stayed
       (WpFn 𝓤 H C Λ code.function) (fn.clauses 𝓤 H A mem run)
   fn-walks C Λ fm known = walked 𝓤 H A fn.ended stayed (fn.clauses 𝓤 H A mem run) (WpFn 𝓤 H C Λ code.function)
       (λ κs. (array-vals (LL.vals T.the-type T′.the-laws), (slice-vals, (LL.vals P.the-type P′.the-laws, (slice-vals, tt)))))
@@ -259,7 +259,7 @@ module _ {M : Type 1} (𝓤 : URA M) (H : Heap 𝓤) (A : Atoms 𝓤) (W : Given
       (LL.lawful P.the-type P′.the-laws 𝓤 H A W .typed (a .1 .1 .0) _ (are .1 .1 .0) .0) (are .1 .1 .1 .0 .0 .1)))
 
 fn-meets : {M : Type 1} (𝓤 : URA M) (H : Heap 𝓤) (A : Atoms 𝓤) → Given 𝓤 H A → (mem : Memory → SProp 𝓤) (run : Routine → Fun 𝓤) (𝓣 : Tables 𝓤 H) → Triple 𝓤
-    (𝓣 .C #list·each) (Each 𝓤 H A mem run)
+    (𝓣 .C #list·lent-steps) (Callee 𝓤 H A mem run)
     → Meets 𝓤 H A fn.signature (WpFn 𝓤 H (𝓣 .C) (𝓣 .Λ) code.function) (fn.spec 𝓤 H A mem run)
 fn-meets 𝓤 H A W mem run 𝓣 known = walk-meets 𝓤 H A fn.ended stayed W (
   goes-none 𝓤 H A W 2 (λ _. Listing) yes (λ κs x f. refl),
@@ -271,10 +271,10 @@ fn-meets 𝓤 H A W mem run 𝓣 known = walk-meets 𝓤 H A fn.ended stayed W (
     (fn.clauses 𝓤 H A mem run) (WpFn 𝓤 H (𝓣 .C) (𝓣 .Λ) code.function) (WpFn-mono 𝓤 H (W .laws) 𝓣 code.function) (fn-walks 𝓤 H A W mem run (𝓣 .C) (𝓣 .Λ)
     (fmOf 𝓤 H (W .laws) 𝓣) known)
 
-pub all-spec : {M : Type 1} → stated.statement M
+pub own-steps-spec : {M : Type 1} → stated.statement M
 unfolding code.routine tablesOf
-all-spec 𝓤 H 𝓜 𝓖 𝓡 =
+own-steps-spec 𝓤 H 𝓜 𝓖 𝓡 =
     entered 𝓤 H (tripleOf 𝓤 H (𝓖 .A) fn.signature (fn.spec 𝓤 H (𝓖 .A) (𝓜 .mem) (𝓡 .run)))
-    (tables 𝓤 H 𝓜 𝓡 code.env .C) (tables 𝓤 H 𝓜 𝓡 code.env .Λ) #list·all code.function (code.unfolded 𝓤 H 𝓜 𝓡)
+    (tables 𝓤 H 𝓜 𝓡 code.env .C) (tables 𝓤 H 𝓜 𝓡 code.env .Λ) #list·own-steps code.function (code.unfolded 𝓤 H 𝓜 𝓡)
     (fn-meets 𝓤 H (𝓖 .A) (givenOf 𝓤 H 𝓜 𝓖) (𝓜 .mem) (𝓡 .run) (tablesOf 𝓤 H 𝓜 (tables 𝓤 H 𝓜 𝓡 code.env))
-    (cited 𝓤 H (Each 𝓤 H (𝓖 .A) (𝓜 .mem) (𝓡 .run)) 𝓜 𝓡 code.env #list·each callee-def.routine code.calls-list·each (callee-thm.met 𝓤 H 𝓜 𝓖 𝓡)))
+    (cited 𝓤 H (Callee 𝓤 H (𝓖 .A) (𝓜 .mem) (𝓡 .run)) 𝓜 𝓡 code.env #list·lent-steps callee-def.routine code.calls-list·lent-steps (callee-thm.met 𝓤 H 𝓜 𝓖 𝓡)))

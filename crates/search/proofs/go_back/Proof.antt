@@ -1,9 +1,9 @@
 use Rattle.search.proofs.VisitLaws.{over-here, back-there, back-next}
 use borrow.Author.Needs.{needs}
-use Rattle.search.proofs.retreat.Statement.{statement}
-use Rattle.search.proofs.retreat.Tie as tie
-use Rattle.search.proofs.retreat.Reads as reads
-use Rattle.search.proofs.retreat.Lts as lts
+use Rattle.search.proofs.go_back.Statement.{statement}
+use Rattle.search.proofs.go_back.Tie as tie
+use Rattle.search.proofs.go_back.Reads as reads
+use Rattle.search.proofs.go_back.Lts as lts
 use Rattle.room.proofs.back.Reads as back-reads
 use Rattle.room.proofs.waiting.Reads as waiting-reads
 
@@ -52,8 +52,8 @@ returns-2 c =
     let w = e .before in
     back-next _ _ (w .before .before .before .before .before .pre .1) _ (w .waiting .ensures) (e .if1 .left) _ _ (c .before .before .back .ensures)
 
-pub retreat-spec : {M : Type 1} → statement M
-retreat-spec =
+pub go-back-spec : {M : Type 1} → statement M
+go-back-spec =
     tie.close
     (tie.spec
     mul-waiting

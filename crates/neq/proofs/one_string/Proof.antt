@@ -5,12 +5,12 @@ use borrow.Author.Count.{below-more}
 use lib.ListN.{length, getD}
 use Rattle.model.specs.Words.{bits}
 use Rattle.laws.proofs.BitsLaws.{several-true, several-false}
-use Rattle.neq.proofs.SingleLaws.{has-several, none-several}
+use Rattle.neq.proofs.OneStringLaws.{has-several, none-several}
 use borrow.Author.Needs.{needs}
-use Rattle.neq.proofs.single.Statement.{statement}
-use Rattle.neq.proofs.single.Tie as tie
-use Rattle.neq.proofs.single.Reads as reads
-use Rattle.neq.proofs.single.Lts as lts
+use Rattle.neq.proofs.one_string.Statement.{statement}
+use Rattle.neq.proofs.one_string.Tie as tie
+use Rattle.neq.proofs.one_string.Reads as reads
+use Rattle.neq.proofs.one_string.Lts as lts
 use Rattle.words.proofs.several.Reads as several-reads
 
 abbrev Inv-loop : tie.InvT-loop
@@ -49,8 +49,8 @@ returns-2 c =
     let l : length (c .before .before .args .t1) ≡ 64 = search needs in
     none-several (c .before .before .args .t1) (λ j h. c .before .loop .inv .1 j (rw e (rw l at h)))
 
-pub single-spec : {M : Type 1} → statement M
-single-spec =
+pub one-string-spec : {M : Type 1} → statement M
+one-string-spec =
     tie.close
     (tie.spec
     Inv-loop

@@ -5,10 +5,10 @@ use native.Mathlib.Omega.{arith}
 use lib.Dec.{lit<}
 use lib.Pow.{shl-exact}
 use borrow.Author.Needs.{needs}
-use Rattle.words.proofs.single.Statement.{statement}
-use Rattle.words.proofs.single.Tie as tie
-use Rattle.words.proofs.single.Reads as reads
-use Rattle.words.proofs.single.Lts as lts
+use Rattle.words.proofs.singleton.Statement.{statement}
+use Rattle.words.proofs.singleton.Tie as tie
+use Rattle.words.proofs.singleton.Reads as reads
+use Rattle.words.proofs.singleton.Lts as lts
 
 -- src/lib.rt:46:5
 shl-result : tie.Need-shl-result
@@ -18,5 +18,5 @@ shl-result c = search needs
 returns : tie.Need-returns
 returns c = let l : 1 + c .args .i ≤ 64 = omega arith in shl-exact 1 (c .args .i) 64 (lit< tt) l ∙ one-mul (2 ^ c .args .i)
 
-pub single-spec : {M : Type 1} → statement M
-single-spec = tie.close (tie.spec shl-result returns)
+pub singleton-spec : {M : Type 1} → statement M
+singleton-spec = tie.close (tie.spec shl-result returns)

@@ -1,5 +1,5 @@
--- `list::at` meets its contract: a walk of its MIR, by hand. The place of `cs[j]` is computed, the slice is looked into, element j is taken out of the row,
--- copied, and put back, and the copy goes to `one` with the file, its parts and the table, which is given up for good. All that the proof knows of `one` is
+-- `list::lent_step` meets its contract: a walk of its MIR, by hand. The place of `cs[j]` is computed, the slice is looked into, element j is taken out of the row,
+-- copied, and put back, and the copy goes to `record_step` with the file, its parts and the table, which is given up for good. All that the proof knows of `record_step` is
 -- that it meets its contract.
 --
 -- Assumes nothing.
@@ -50,7 +50,7 @@ use denote.Triple.Walked.{goes-gave-slice, walk-meets}
 use denote.Exit.{yes}
 use borrow.Author.Needs.{scaled-fits}
 use Rattle.model.specs.Constraints as model
-use Rattle.laws.proofs.CallLaws.{lendable}
+use Rattle.laws.specs.Lent.{lendable}
 use Rattle.layout.specs.declared.Parts.{Parts}
 use Rattle.layout.proofs.Parts as P
 use Rattle.layout.proofs.Parts.Laws as P′
@@ -61,14 +61,14 @@ use Rattle.list.specs.declared.Constraint.{Constraint}
 use Rattle.list.proofs.ListedLaws.{inside, asks-one, steps-one}
 use Rattle.list.proofs.Constraint as T
 use Rattle.list.proofs.Constraint.Laws as T′
-use Rattle.list.proofs.one as one
-use Rattle.list.proofs.one.Symbol as one-def
-use Rattle.list.proofs.one.Symbol.{name as #list·one}
-use Rattle.list.proofs.one.Met as one-thm
-use Rattle.list.proofs.at.Key.{name as #list·at}
-use Rattle.list.proofs.at as fn
-use Rattle.list.proofs.at.Statement as stated
-use Rattle.list.proofs.at.Code as code
+use Rattle.list.proofs.record_step as callee
+use Rattle.list.proofs.record_step.Symbol as callee-def
+use Rattle.list.proofs.record_step.Symbol.{name as #list·record-step}
+use Rattle.list.proofs.record_step.Met as callee-thm
+use Rattle.list.proofs.lent_step.Key.{name as #list·lent-step}
+use Rattle.list.proofs.lent_step as fn
+use Rattle.list.proofs.lent_step.Statement as stated
+use Rattle.list.proofs.lent_step.Code as code
 
 abbrev stayed : Stays (fn.ended .signature .params) (fn.ended .kept)
 stayed = (
@@ -84,8 +84,8 @@ stayed = (
 
 module _ {M : Type 1} (𝓤 : URA M) (H : Heap 𝓤) (A : Atoms 𝓤) (mem : Memory → SProp 𝓤) (run : Routine → Fun 𝓤) where
   -- the contract that the proof cites
-  abbrev One : Contract 𝓤
-  One = tripleOf 𝓤 H A one.signature (one.spec 𝓤 H A mem run)
+  abbrev Callee : Contract 𝓤
+  Callee = tripleOf 𝓤 H A callee.signature (callee.spec 𝓤 H A mem run)
 
 module _ {M : Type 1} (𝓤 : URA M) (H : Heap 𝓤) (A : Atoms 𝓤) (W : Given 𝓤 H A) (mem : Memory → SProp 𝓤) (run : Routine → Fun 𝓤) (κ κf κt : Lft)
     (q qf qt : Share)
@@ -126,7 +126,7 @@ module _ {M : Type 1} (𝓤 : URA M) (H : Heap 𝓤) (A : Atoms 𝓤) (W : Given
   vs = LL.vals T.the-type T′.the-laws elem
 
   -- what the callee is passed, and what it asks
-  abbrev to : One 𝓤 H A mem run .Ghost
+  abbrev to : Callee 𝓤 H A mem run .Ghost
   to = (((κf, (κt, tt)), (qf, (qt, tt)), tt, (elem, (f, (p, (y, tt)))), (vs, (m ∷ [], (pm ∷ [], (s ∷ [], tt))))), tt)
 
   -- the `requires`
@@ -146,7 +146,7 @@ module _ {M : Type 1} (𝓤 : URA M) (H : Heap 𝓤) (A : Atoms 𝓤) (W : Given
             (s ∷ [], tt),
           ),
         ),
-      )))) (One 𝓤 H A mem run .pre to)
+      )))) (Callee 𝓤 H A mem run .pre to)
   asked h =
       qed W ((‵ (flft κf qf) ⊛ ‵ (flft κt qt) ⊛ ‵ ftrue) ∷ ‵ (owns (T.the-row ∷ ShrSlice (named 0) κf u8 ∷ P.the-row ∷ MutSlice (named 1) κt u64 ∷ []) (
         elem,
@@ -173,7 +173,7 @@ module _ {M : Type 1} (𝓤 : URA M) (H : Heap 𝓤) (A : Atoms 𝓤) (W : Given
       move ! (1 ∷ 2 ∷ []) $ join ! $ frame ! $ nothing ! $ move ! (2 ∷ 0 ∷ []) $ fjoin ! $ move ! (4 ∷ 0 ∷ []) $ fjoin ! $ move ! (3 ∷ 0 ∷ []) $ fjoin ! $
       owned ! usize (Is usize) (uint-makes 𝓤 H A W w64) i _ (refl, i-fits) $ fjoin ! $ move ! (2 ∷ 0 ∷ []) $ fjoin ! $ frame ! $ done !
 
-  module _ (C : Calls 𝓤 H) (Λ : Loops 𝓤 H) (fm : FmC 𝓤 H (W .laws) C) (known : Triple 𝓤 (C #list·one) (One 𝓤 H A mem run)) where
+  module _ (C : Calls 𝓤 H) (Λ : Loops 𝓤 H) (fm : FmC 𝓤 H (W .laws) C) (known : Triple 𝓤 (C #list·record-step) (Callee 𝓤 H A mem run)) where
     walk : Room T.the-row (length ys) → Room u8 (length bytes) → Holds (hasTy P′.mir pm) × WT pm → Room u64 (length ts) → Pre
         → ent 𝓤 (onEntry 𝓤 H A fn.signature (κ, (κf, (κt, tt))) (q, (qf, (qt, tt))) x at)
         (WpFn 𝓤 H C Λ code.function (sliceVal (b, o) (length ys) ∷ vint w64 i ∷ m ∷ pm ∷ s ∷ []) Post)
@@ -216,14 +216,14 @@ module _ {M : Type 1} (𝓤 : URA M) (H : Heap 𝓤) (A : Atoms 𝓤) (W : Given
         move ! (2 ∷ []) $ fsplit ! $
         use1 W (‵ (P.the-row .own p (pm ∷ [])) ⊛ ‵ (P.the-row .own p (pm ∷ []))) (LL.copy P.the-type P′.the-copy 𝓤 H A W .twice p (pm ∷ [])) $ split ! $
         move ! (0 ∷ 2 ∷ []) $ fjoin ! $ move ! (2 ∷ 0 ∷ []) $ fjoin ! $ move ! (4 ∷ 0 ∷ []) $ fjoin ! $ move ! (5 ∷ 0 ∷ []) $
-        use2 W (raw (One 𝓤 H A mem run .pre to)) (asked h) $
+        use2 W (raw (Callee 𝓤 H A mem run .pre to)) (asked h) $
         -- [what the callee asks; what p owns; what the file owns; cs's token; the fractured borrow; res; cs's fact; _11; …]
-        calls-at ! fm (One 𝓤 H A mem run) known to (and-then ! (load ! (from ! (stop !)) (look ! 17 refl)) (and-then ! (load ! (from ! (stop !))
+        calls-at ! fm (Callee 𝓤 H A mem run) known to (and-then ! (load ! (from ! (stop !)) (look ! 17 refl)) (and-then ! (load ! (from ! (stop !))
         (look ! 23 refl)) (and-then ! (load ! (from ! (stop !)) (look ! 21 refl)) (and-then ! (load ! (from ! (stop !)) (look ! 7 refl)) (no-more !))))) (λ u.
-        use1 W (later (any (λ (r : ℕ). ((‵ (flft κf qf) ⊛ ‵ (flft κt qt) ⊛ ‵ ftrue) ⊛ ‵ (u32 .own r (u ∷ []))) ⊛ raw (ensured 𝓤 H A one.ended
-        (one.clauses 𝓤 H A mem run) (κf, (κt, tt)) (elem, (f, (p, (y, tt)))) tt r)))) (id⊢ 𝓤 _) $ await ! tt $ pick ! (λ r.
+        use1 W (later (any (λ (r : ℕ). ((‵ (flft κf qf) ⊛ ‵ (flft κt qt) ⊛ ‵ ftrue) ⊛ ‵ (u32 .own r (u ∷ []))) ⊛ raw (ensured 𝓤 H A callee.ended
+        (callee.clauses 𝓤 H A mem run) (κf, (κt, tt)) (elem, (f, (p, (y, tt)))) tt r)))) (id⊢ 𝓤 _) $ await ! tt $ pick ! (λ r.
         split ! $ move ! (1 ∷ []) $
-        use1 W (any (λ (zs : Unit {0} × (Unit {0} × (Unit {0} × (List ℕ × Unit {0})))). ‵ (lasts one.ended (κf, (κt, tt)) (elem, (f, (p, (y, tt)))) zs) ⊛ raw
+        use1 W (any (λ (zs : Unit {0} × (Unit {0} × (Unit {0} × (List ℕ × Unit {0})))). ‵ (lasts callee.ended (κf, (κt, tt)) (elem, (f, (p, (y, tt)))) zs) ⊛ raw
         (fact 𝓤 (Said r (zs .1 .1 .1 .0))))) (id⊢ 𝓤 _) $ pick ! (λ zs.
         split ! $ move ! (1 ∷ []) $ heard ! (Said r (zs .1 .1 .1 .0)) (λ e. fsplit ! $ drop ! $ fsplit ! $ drop ! $ fsplit ! $ drop ! $ fsplit ! $ fsplit ! $
         move ! (1 ∷ []) $ feqL ! (λ same.
@@ -242,7 +242,7 @@ module _ {M : Type 1} (𝓤 : URA M) (H : Heap 𝓤) (A : Atoms 𝓤) (W : Given
         by ! (exits r u (zs .1 .1 .1 .0) h e same)))))))))))))))))))))
 
 module _ {M : Type 1} (𝓤 : URA M) (H : Heap 𝓤) (A : Atoms 𝓤) (W : Given 𝓤 H A) (mem : Memory → SProp 𝓤) (run : Routine → Fun 𝓤) where
-  fn-walks : (C : Calls 𝓤 H) (Λ : Loops 𝓤 H) → FmC 𝓤 H (W .laws) C → Triple 𝓤 (C #list·one) (One 𝓤 H A mem run) → Walks 𝓤 H A fn.ended stayed
+  fn-walks : (C : Calls 𝓤 H) (Λ : Loops 𝓤 H) → FmC 𝓤 H (W .laws) C → Triple 𝓤 (C #list·record-step) (Callee 𝓤 H A mem run) → Walks 𝓤 H A fn.ended stayed
       (WpFn 𝓤 H C Λ code.function) (fn.clauses 𝓤 H A mem run)
   fn-walks C Λ fm known = walked 𝓤 H A fn.ended stayed (fn.clauses 𝓤 H A mem run) (WpFn 𝓤 H C Λ code.function)
       (λ κs. (slice-vals, (uint-vals w64, (slice-vals, (LL.vals P.the-type P′.the-laws, (slice-vals, tt))))))
@@ -269,7 +269,7 @@ module _ {M : Type 1} (𝓤 : URA M) (H : Heap 𝓤) (A : Atoms 𝓤) (W : Given
       (are .1 .1 .1 .1 .0 .0 .1)))
 
 fn-meets : {M : Type 1} (𝓤 : URA M) (H : Heap 𝓤) (A : Atoms 𝓤) → Given 𝓤 H A → (mem : Memory → SProp 𝓤) (run : Routine → Fun 𝓤) (𝓣 : Tables 𝓤 H) → Triple 𝓤
-    (𝓣 .C #list·one) (One 𝓤 H A mem run)
+    (𝓣 .C #list·record-step) (Callee 𝓤 H A mem run)
     → Meets 𝓤 H A fn.signature (WpFn 𝓤 H (𝓣 .C) (𝓣 .Λ) code.function) (fn.spec 𝓤 H A mem run)
 fn-meets 𝓤 H A W mem run 𝓣 known = walk-meets 𝓤 H A fn.ended stayed W (
   goes-none-slice 𝓤 H A W 3 (0 ∷ []) tt (plain (λ _. T.the-row)) yes,
@@ -285,10 +285,10 @@ fn-meets 𝓤 H A W mem run 𝓣 known = walk-meets 𝓤 H A fn.ended stayed W (
     (fn.clauses 𝓤 H A mem run) (WpFn 𝓤 H (𝓣 .C) (𝓣 .Λ) code.function) (WpFn-mono 𝓤 H (W .laws) 𝓣 code.function) (fn-walks 𝓤 H A W mem run (𝓣 .C) (𝓣 .Λ)
     (fmOf 𝓤 H (W .laws) 𝓣) known)
 
-pub at-spec : {M : Type 1} → stated.statement M
+pub lent-step-spec : {M : Type 1} → stated.statement M
 unfolding code.routine tablesOf
-at-spec 𝓤 H 𝓜 𝓖 𝓡 =
+lent-step-spec 𝓤 H 𝓜 𝓖 𝓡 =
     entered 𝓤 H (tripleOf 𝓤 H (𝓖 .A) fn.signature (fn.spec 𝓤 H (𝓖 .A) (𝓜 .mem) (𝓡 .run)))
-    (tables 𝓤 H 𝓜 𝓡 code.env .C) (tables 𝓤 H 𝓜 𝓡 code.env .Λ) #list·at code.function (code.unfolded 𝓤 H 𝓜 𝓡)
+    (tables 𝓤 H 𝓜 𝓡 code.env .C) (tables 𝓤 H 𝓜 𝓡 code.env .Λ) #list·lent-step code.function (code.unfolded 𝓤 H 𝓜 𝓡)
     (fn-meets 𝓤 H (𝓖 .A) (givenOf 𝓤 H 𝓜 𝓖) (𝓜 .mem) (𝓡 .run) (tablesOf 𝓤 H 𝓜 (tables 𝓤 H 𝓜 𝓡 code.env))
-    (cited 𝓤 H (One 𝓤 H (𝓖 .A) (𝓜 .mem) (𝓡 .run)) 𝓜 𝓡 code.env #list·one one-def.routine code.calls-list·one (one-thm.met 𝓤 H 𝓜 𝓖 𝓡)))
+    (cited 𝓤 H (Callee 𝓤 H (𝓖 .A) (𝓜 .mem) (𝓡 .run)) 𝓜 𝓡 code.env #list·record-step callee-def.routine code.calls-list·record-step (callee-thm.met 𝓤 H 𝓜 𝓖 𝓡)))

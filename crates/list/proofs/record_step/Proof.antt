@@ -1,9 +1,9 @@
 use Rattle.list.proofs.ListedLaws.{never-none, constraint-there, meant-step}
 use borrow.Author.Needs.{needs}
-use Rattle.list.proofs.one.Statement.{statement}
-use Rattle.list.proofs.one.Tie as tie
-use Rattle.list.proofs.one.Reads as reads
-use Rattle.list.proofs.one.Lts as lts
+use Rattle.list.proofs.record_step.Statement.{statement}
+use Rattle.list.proofs.record_step.Tie as tie
+use Rattle.list.proofs.record_step.Reads as reads
+use Rattle.list.proofs.record_step.Lts as lts
 use Rattle.records.proofs.decode.Reads as decode-reads
 use Rattle.steps.proofs.narrow.Reads as narrow-reads
 
@@ -33,7 +33,7 @@ returns-2 c =
     meant-step _ _ _ _ (known .before .before .before .before .before .pre) _ (known .before .before .decode .ensures) _ (known .r .given .1)
     (c .before .before .narrow .ensures)
 
-pub one-spec : {M : Type 1} → statement M
-one-spec =
+pub record-step-spec : {M : Type 1} → statement M
+record-step-spec =
     tie.close
     (tie.spec decode-requires enum-known-r enum-told returns narrow-requires same-length returns-2)

@@ -1,5 +1,5 @@
--- `list::each` meets its contract: a walk of its MIR, by hand, with a loop. The table's borrow is opened once, before the loop, and closed once, after it; in
--- each turn the words are lent anew to `at`, for a lifetime that the turn makes, and taken back. All that the proof knows of `at` is that it meets its
+-- `list::lent_steps` meets its contract: a walk of its MIR, by hand, with a loop. The table's borrow is opened once, before the loop, and closed once, after it; in
+-- each turn the words are lent anew to `lent_step`, for a lifetime that the turn makes, and taken back. All that the proof knows of `lent_step` is that it meets its
 -- contract.
 --
 -- Assumes nothing.
@@ -58,7 +58,7 @@ use denote.Triple.Walked.{walk-meets}
 use denote.Exit.{yes}
 use borrow.Author.Tests.{ltb-true, ltb-false}
 use Rattle.model.specs.Constraints.{always}
-use Rattle.laws.proofs.CallLaws.{lendable}
+use Rattle.laws.specs.Lent.{lendable}
 use Rattle.layout.specs.declared.Parts.{Parts}
 use Rattle.layout.proofs.Parts as P
 use Rattle.layout.proofs.Parts.Laws as P′
@@ -69,15 +69,15 @@ use Rattle.list.specs.declared.Constraint.{Constraint}
 use Rattle.list.proofs.ListedLaws.{Reached, reached-first, reached-length, reached-few, reached-ran, asks-next, reached-next}
 use Rattle.list.proofs.Constraint as T
 use Rattle.list.proofs.Constraint.Laws as T′
-use Rattle.list.proofs.at as callee
-use Rattle.list.proofs.at.Symbol as callee-def
-use Rattle.list.proofs.at.Symbol.{name as #list·at}
-use Rattle.list.proofs.at.Met as callee-thm
-use Rattle.list.proofs.each.Key.{name as #list·each}
-use Rattle.list.proofs.each as fn
-use Rattle.list.proofs.each.Statement as stated
-use Rattle.list.proofs.each.Code as code
-use Rattle.list.proofs.each.Code.Mir as body
+use Rattle.list.proofs.lent_step as callee
+use Rattle.list.proofs.lent_step.Symbol as callee-def
+use Rattle.list.proofs.lent_step.Symbol.{name as #list·lent-step}
+use Rattle.list.proofs.lent_step.Met as callee-thm
+use Rattle.list.proofs.lent_steps.Key.{name as #list·lent-steps}
+use Rattle.list.proofs.lent_steps as fn
+use Rattle.list.proofs.lent_steps.Statement as stated
+use Rattle.list.proofs.lent_steps.Code as code
+use Rattle.list.proofs.lent_steps.Code.Mir as body
 
 abbrev stayed : Stays (fn.ended .signature .params) (fn.ended .kept)
 stayed = (
@@ -112,8 +112,8 @@ again-ref = tyRef erased mut word
 
 module _ {M : Type 1} (𝓤 : URA M) (H : Heap 𝓤) (A : Atoms 𝓤) (mem : Memory → SProp 𝓤) (run : Routine → Fun 𝓤) where
   -- the contract that the proof cites
-  abbrev At : Contract 𝓤
-  At = tripleOf 𝓤 H A callee.signature (callee.spec 𝓤 H A mem run)
+  abbrev Callee : Contract 𝓤
+  Callee = tripleOf 𝓤 H A callee.signature (callee.spec 𝓤 H A mem run)
 
 module _ {M : Type 1} (𝓤 : URA M) (H : Heap 𝓤) (A : Atoms 𝓤) (W : Given 𝓤 H A) (mem : Memory → SProp 𝓤) (run : Routine → Fun 𝓤) (κ κf κt : Lft)
     (q qf qt : Share)
@@ -189,7 +189,7 @@ module _ {M : Type 1} (𝓤 : URA M) (H : Heap 𝓤) (A : Atoms 𝓤) (W : Given
   abbrev passed : State → (α : ℕ) → Vals callee.signature (κ, (κf, (α ∷ [], tt)))
   passed t α = (lm ∷ [], (vint w64 (t .j) ∷ [], (m ∷ [], (pm ∷ [], (s ∷ [], tt)))))
 
-  abbrev to : ℕ → GName → State → At 𝓤 H A mem run .Ghost
+  abbrev to : ℕ → GName → State → Callee 𝓤 H A mem run .Ghost
   to α δ t = (((κ, (κf, (α ∷ [], tt))), (q, (qf, (fullShare, tt))), tt, passes δ t, passed t α), tt)
 
   abbrev Said : State → ℕ → List ℕ → Type 0
@@ -198,7 +198,7 @@ module _ {M : Type 1} (𝓤 : URA M) (H : Heap 𝓤) (A : Atoms 𝓤) (W : Given
   asked : (α : ℕ) (δ : GName) (t : State) → t .j < p .c → ent 𝓤 (sep 𝓤 (sep 𝓤 (A .lft κ q) (sep 𝓤 (A .lft κf qf) (sep 𝓤 (A .lft (α ∷ []) fullShare)
       (sem 𝓤 H A ftrue))))
       (sem 𝓤 H A (owns (ShrSlice (named 0) κ T.the-row ∷ usize ∷ ShrSlice (named 1) κf u8 ∷ P.the-row ∷ MutSlice (named 2) (α ∷ []) u64 ∷ []) (passes δ t)
-      (passed t α)))) (At 𝓤 H A mem run .pre (to α δ t))
+      (passed t α)))) (Callee 𝓤 H A mem run .pre (to α δ t))
   asked α δ t less =
       qed W ((‵ (flft κ q) ⊛ ‵ (flft κf qf) ⊛ ‵ (flft (α ∷ []) fullShare) ⊛ ‵ ftrue)
       ∷ ‵ (owns (ShrSlice (named 0) κ T.the-row ∷ usize ∷ ShrSlice (named 1) κf u8 ∷ P.the-row ∷ MutSlice (named 2) (α ∷ []) u64 ∷ []) (passes δ t)
@@ -225,7 +225,7 @@ module _ {M : Type 1} (𝓤 : URA M) (H : Heap 𝓤) (A : Atoms 𝓤) (W : Given
       nothing ! $ move ! (1 ∷ 0 ∷ []) $ fjoin ! $ move ! (3 ∷ 0 ∷ []) $ fjoin ! $ move ! (2 ∷ 0 ∷ []) $ fjoin ! $ move ! (1 ∷ 0 ∷ []) $ fjoin ! $ frame ! $
       owned ! u32 (Is u32) (uint-makes 𝓤 H A W w32) (t .count) _ (refl, reached-few bytes p ts ys h t) $ done !
 
-  module _ (𝓣 : Tables 𝓤 H) (known : Triple 𝓤 (𝓣 .C #list·at) (At 𝓤 H A mem run)) (l₀ l₁ l₂ l₃ l₄ l₅ l₆ l₇ l₈ l₉ l₁₀ : ℕ) where
+  module _ (𝓣 : Tables 𝓤 H) (known : Triple 𝓤 (𝓣 .C #list·lent-step) (Callee 𝓤 H A mem run)) (l₀ l₁ l₂ l₃ l₄ l₅ l₆ l₇ l₈ l₉ l₁₀ : ℕ) where
     abbrev C : Calls 𝓤 H
     C = 𝓣 .C
 
@@ -278,9 +278,9 @@ module _ {M : Type 1} (𝓤 : URA M) (H : Heap 𝓤) (A : Atoms 𝓤) (W : Given
         owned ! usize (Is usize) (uint-makes 𝓤 H A W w64) (t .j) _ (refl, omega (arith, less, c-fits)) $ fjoin ! $
         move ! (32 ∷ []) $ use1 W (‵ Cs ⊛ ‵ Cs) (shr-slice-copy 𝓤 H A W (named 0) κ T.the-row .twice l (lm ∷ [])) $ split ! $ move ! (0 ∷ 2 ∷ []) $ fjoin ! $
         nothing ! $ move ! (6 ∷ 0 ∷ []) $ join ! $ move ! (32 ∷ 0 ∷ []) $ join ! $ move ! (31 ∷ 0 ∷ []) $ join ! $
-        use2 W (raw (At 𝓤 H A mem run .pre (to α δ t))) (asked α δ t less) $
+        use2 W (raw (Callee 𝓤 H A mem run .pre (to α δ t))) (asked α δ t less) $
         -- [what the callee asks; cs; the file; p; the lender's part; _10; …; _0; …; the open borrow; obs; auth]
-        calls-at ! (fmOf 𝓤 H (W .laws) 𝓣) (At 𝓤 H A mem run) known (to α δ t) (and-then ! (load ! (from ! (stop !)) (look ! 23 refl)) (and-then ! (load !
+        calls-at ! (fmOf 𝓤 H (W .laws) 𝓣) (Callee 𝓤 H A mem run) known (to α δ t) (and-then ! (load ! (from ! (stop !)) (look ! 23 refl)) (and-then ! (load !
         (from ! (stop !)) (look ! 13 refl)) (and-then ! (load ! (from ! (stop !)) (look ! 21 refl)) (and-then ! (load ! (from ! (stop !)) (look ! 19 refl))
         (and-then ! (load ! (from ! (stop !)) (look ! 5 refl)) (no-more !)))))) (λ u.
         use1 W (later (any (λ (r : ℕ). ((‵ (flft κ q) ⊛ ‵ (flft κf qf) ⊛ ‵ (flft (α ∷ []) fullShare) ⊛ ‵ ftrue) ⊛ ‵ (u32 .own r (u ∷ []))) ⊛ raw
@@ -342,7 +342,7 @@ module _ {M : Type 1} (𝓤 : URA M) (H : Heap 𝓤) (A : Atoms 𝓤) (W : Given
         go true test = more t test
         go false test = ends t test
 
-  walk : (𝓣 : Tables 𝓤 H) → Triple 𝓤 (𝓣 .C #list·at) (At 𝓤 H A mem run) → ent 𝓤 (onEntry 𝓤 H A fn.signature (κ, (κf, (κt, tt))) (q, (qf, (qt, tt))) x at)
+  walk : (𝓣 : Tables 𝓤 H) → Triple 𝓤 (𝓣 .C #list·lent-step) (Callee 𝓤 H A mem run) → ent 𝓤 (onEntry 𝓤 H A fn.signature (κ, (κf, (κt, tt))) (q, (qf, (qt, tt))) x at)
       (WpFn 𝓤 H (𝓣 .C) (𝓣 .Λ) code.function (lm ∷ m ∷ pm ∷ s ∷ []) Post)
   walk 𝓣 known =
       qed W ((‵ (flft κ q) ⊛ ‵ (flft κf qf) ⊛ ‵ (flft κt qt) ⊛ ‵ ftrue) ∷ ‵ (owns (ShrSlice (named 0) κ T.the-row ∷ ShrSlice (named 1) κf u8 ∷ P.the-row
@@ -367,7 +367,7 @@ module _ {M : Type 1} (𝓤 : URA M) (H : Heap 𝓤) (A : Atoms 𝓤) (W : Given
       (reached-first bytes p ts))))))))))))
 
 module _ {M : Type 1} (𝓤 : URA M) (H : Heap 𝓤) (A : Atoms 𝓤) (W : Given 𝓤 H A) (mem : Memory → SProp 𝓤) (run : Routine → Fun 𝓤) where
-  fn-walks : (𝓣 : Tables 𝓤 H) → Triple 𝓤 (𝓣 .C #list·at) (At 𝓤 H A mem run) → Walks 𝓤 H A fn.ended stayed (WpFn 𝓤 H (𝓣 .C) (𝓣 .Λ) code.function)
+  fn-walks : (𝓣 : Tables 𝓤 H) → Triple 𝓤 (𝓣 .C #list·lent-step) (Callee 𝓤 H A mem run) → Walks 𝓤 H A fn.ended stayed (WpFn 𝓤 H (𝓣 .C) (𝓣 .Λ) code.function)
       (fn.clauses 𝓤 H A mem run)
   fn-walks 𝓣 known = walked 𝓤 H A fn.ended stayed (fn.clauses 𝓤 H A mem run) (WpFn 𝓤 H (𝓣 .C) (𝓣 .Λ) code.function)
       (λ κs. (slice-vals, (slice-vals, (LL.vals P.the-type P′.the-laws, (slice-vals, tt)))))
@@ -393,7 +393,7 @@ module _ {M : Type 1} (𝓤 : URA M) (H : Heap 𝓤) (A : Atoms 𝓤) (W : Given
       h (are .0 .0 .1) (are .1 .0 .0 .1) (LL.lawful P.the-type P′.the-laws 𝓤 H A W .typed (a .1 .1 .0) _ (are .1 .1 .0) .0) (are .1 .1 .1 .0 .0 .1) 𝓣 known))
 
 fn-meets : {M : Type 1} (𝓤 : URA M) (H : Heap 𝓤) (A : Atoms 𝓤) → Given 𝓤 H A → (mem : Memory → SProp 𝓤) (run : Routine → Fun 𝓤) (𝓣 : Tables 𝓤 H) → Triple 𝓤
-    (𝓣 .C #list·at) (At 𝓤 H A mem run)
+    (𝓣 .C #list·lent-step) (Callee 𝓤 H A mem run)
     → Meets 𝓤 H A fn.signature (WpFn 𝓤 H (𝓣 .C) (𝓣 .Λ) code.function) (fn.spec 𝓤 H A mem run)
 fn-meets 𝓤 H A W mem run 𝓣 known = walk-meets 𝓤 H A fn.ended stayed W (
   goes-none-slice 𝓤 H A W 3 (0 ∷ []) tt (plain (λ _. T.the-row)) yes,
@@ -404,10 +404,10 @@ fn-meets 𝓤 H A W mem run 𝓣 known = walk-meets 𝓤 H A fn.ended stayed W (
 )
     (fn.clauses 𝓤 H A mem run) (WpFn 𝓤 H (𝓣 .C) (𝓣 .Λ) code.function) (WpFn-mono 𝓤 H (W .laws) 𝓣 code.function) (fn-walks 𝓤 H A W mem run 𝓣 known)
 
-pub each-spec : {M : Type 1} → stated.statement M
+pub lent-steps-spec : {M : Type 1} → stated.statement M
 unfolding code.routine tablesOf
-each-spec 𝓤 H 𝓜 𝓖 𝓡 =
+lent-steps-spec 𝓤 H 𝓜 𝓖 𝓡 =
     entered 𝓤 H (tripleOf 𝓤 H (𝓖 .A) fn.signature (fn.spec 𝓤 H (𝓖 .A) (𝓜 .mem) (𝓡 .run)))
-    (tables 𝓤 H 𝓜 𝓡 code.env .C) (tables 𝓤 H 𝓜 𝓡 code.env .Λ) #list·each code.function (code.unfolded 𝓤 H 𝓜 𝓡)
+    (tables 𝓤 H 𝓜 𝓡 code.env .C) (tables 𝓤 H 𝓜 𝓡 code.env .Λ) #list·lent-steps code.function (code.unfolded 𝓤 H 𝓜 𝓡)
     (fn-meets 𝓤 H (𝓖 .A) (givenOf 𝓤 H 𝓜 𝓖) (𝓜 .mem) (𝓡 .run) (tablesOf 𝓤 H 𝓜 (tables 𝓤 H 𝓜 𝓡 code.env))
-    (cited 𝓤 H (At 𝓤 H (𝓖 .A) (𝓜 .mem) (𝓡 .run)) 𝓜 𝓡 code.env #list·at callee-def.routine code.calls-list·at (callee-thm.met 𝓤 H 𝓜 𝓖 𝓡)))
+    (cited 𝓤 H (Callee 𝓤 H (𝓖 .A) (𝓜 .mem) (𝓡 .run)) 𝓜 𝓡 code.env #list·lent-step callee-def.routine code.calls-list·lent-step (callee-thm.met 𝓤 H 𝓜 𝓖 𝓡)))
