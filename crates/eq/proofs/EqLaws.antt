@@ -15,9 +15,10 @@ use Rattle.rows.proofs.TrimLaws.{trimmed-supports}
 use Rattle.rows.proofs.MeetLaws.{met-length, met-words, in-met, of-met}
 use Rattle.rows.proofs.TwoStrings.{Two, Met, two-narrowed}
 use Rattle.rows.proofs.PlacedKinds.{placed-two}
+use Rattle.laws.specs.Supported.{InRow, Supports}
 use Rattle.laws.proofs.ListLaws.{same-true, same-refl}
-use Rattle.laws.proofs.RowLaws.{InRow, short-of}
-use Rattle.laws.proofs.Supports.{Supports, moved-support}
+use Rattle.laws.proofs.RowLaws.{short-of}
+use Rattle.laws.proofs.Supports.{moved-support}
 
 module _ (x y : List ℕ) (lx : length x ≡ 64) (ly : length y ≡ 64) (bx : Words x) (bY : Words y) where
   -- on either side

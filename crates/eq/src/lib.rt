@@ -7,16 +7,10 @@ ghost use Rattle.model.specs.Constraints.{eq};
 ghost use Rattle.model.specs.Support.{narrowed};
 ghost use Rattle.rows.specs.Rows.{alone};
 
-// The rows of X and Y.
-pub struct Rows {
-    pub x: [u64; 64],
-    pub y: [u64; 64],
-}
-
 // One narrowing step: both strings are one string of both rows.
-pub fn narrow(x: [u64; 64], y: [u64; 64]) -> Rows
+pub fn narrow(x: [u64; 64], y: [u64; 64]) -> rows::Pair
     ensures { λ r. ⌜ r .x ++ r .y ≡ narrowed (alone 2 0 []) (eq 0 1) (x ++ y) ⌝ }
 {
     let both = rows::trim(rows::meet(x, y));
-    Rows { x: both, y: both }
+    rows::Pair { x: both, y: both }
 }

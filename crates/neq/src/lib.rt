@@ -10,18 +10,12 @@ ghost use Rattle.model.specs.Words.{several};
 ghost use Rattle.model.specs.Constraints.{neq};
 ghost use Rattle.model.specs.Solutions.{textBit};
 ghost use Rattle.model.specs.Support.{narrowed};
-ghost use Rattle.laws.proofs.Supports.{Supports};
+ghost use Rattle.laws.specs.Supported.{Supports};
 ghost use Rattle.rows.specs.Rows.{alone};
 ghost use Rattle.neq.specs.Others.{Against, differingAt, otherThan};
 
-// The rows of X and Y.
-pub struct Rows {
-    pub x: [u64; 64],
-    pub y: [u64; 64],
-}
-
 // Whether no word has two bits: a trimmed row that has a string stands for that one alone.
-fn single(v: [u64; 64]) -> bool
+fn one_string(v: [u64; 64]) -> bool
     ensures { λ r. ⌜ r ≡ not (any several v) ⌝ }
 {
     let mut i: usize = 0;
@@ -68,17 +62,17 @@ fn side(x: [u64; 64], y: [u64; 64]) -> [u64; 64]
     if v[0] == 0 {
         return [0u64; 64];
     }
-    if single(v) {
+    if one_string(v) {
         return other_than(x, v, words::highest(v[0]) + 1);
     }
     rows::trim(x)
 }
 
 // One narrowing step: each side loses something beyond trimming only when the other stands for one string or for none.
-pub fn narrow(x: [u64; 64], y: [u64; 64]) -> Rows
+pub fn narrow(x: [u64; 64], y: [u64; 64]) -> rows::Pair
     ensures { λ r. ⌜ r .x ++ r .y ≡ narrowed (alone 2 0 []) (neq 0 1) (x ++ y) ⌝ }
 {
-    Rows {
+    rows::Pair {
         x: side(x, y),
         y: side(y, x),
     }

@@ -5,8 +5,7 @@ use Prim.Native.Nat.{ℕ, suc, _-_, _^_, _<_}
 use lib.ListN.{length}
 use Rattle.model.specs.Words.{word}
 use Rattle.model.specs.Solutions.{textBit}
-use Rattle.laws.proofs.RowLaws.{InRow}
-use Rattle.laws.proofs.Supports.{Supports, OfKinds}
+use Rattle.laws.specs.Supported.{InRow, Supports, OfKinds}
 
 -- r has length l alone, and as its first n places those of y from place l on backwards
 pub record Backwards (y : List ℕ) (l n : ℕ) (r : List ℕ) : Type 0 where

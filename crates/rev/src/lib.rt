@@ -12,19 +12,13 @@ ghost use Rattle.model.specs.Support.{narrowed};
 ghost use Rattle.rows.specs.Rows.{alone};
 ghost use Rattle.rev.specs.Turned.{Backwards, Turning};
 
-// The rows of X and Y.
-pub struct Rows {
-    pub x: [u64; 64],
-    pub y: [u64; 64],
-}
-
 // The row of length l alone, with the first l places of y read backwards.
 fn backwards(y: [u64; 64], l: usize) -> [u64; 64]
     requires { ⌜ l < 64 ⌝ }
     ensures { λ r. ⌜ Backwards y l l r ⌝ }
 {
     let mut r = [0u64; 64];
-    r[0] = words::single(l);
+    r[0] = words::singleton(l);
     let mut i: usize = 0;
     while i < l {
         r[i + 1] = y[l - i];
@@ -59,10 +53,10 @@ fn half(x: [u64; 64], y: [u64; 64]) -> [u64; 64]
 }
 
 // One narrowing step: Y is also X read backwards, so either row is narrowed by the other in the same way.
-pub fn narrow(x: [u64; 64], y: [u64; 64]) -> Rows
+pub fn narrow(x: [u64; 64], y: [u64; 64]) -> rows::Pair
     ensures { λ r. ⌜ r .x ++ r .y ≡ narrowed (alone 2 0 []) (rev 0 1) (x ++ y) ⌝ }
 {
     let of_x = half(x, y);
     let of_y = half(y, x);
-    Rows { x: of_x, y: of_y }
+    rows::Pair { x: of_x, y: of_y }
 }

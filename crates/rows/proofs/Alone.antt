@@ -14,12 +14,12 @@ use Rattle.model.specs.Solutions.{textBit, InRange}
 use Rattle.model.specs.Support.{touches, narrowed}
 use Rattle.rows.specs.Rows.{alone}
 use Rattle.rows.proofs.TrimLaws.{strings-allowed, allowed-strings}
-use Rattle.laws.proofs.ListLaws.{In}
+use Rattle.laws.specs.Inclusion.{In}
+use Rattle.laws.specs.Supported.{InRow, Supports}
 use Rattle.laws.proofs.WordLaws.{of-bits, in-bits, zero-bit}
-use Rattle.laws.proofs.RowLaws.{InRow}
 use Rattle.laws.proofs.DomainLaws.{by-word, InDomain}
 use Rattle.laws.proofs.SupportLaws.{Supporting, touched-text, touched-value}
-use Rattle.laws.proofs.Supports.{Supports, moved-support}
+use Rattle.laws.proofs.Supports.{moved-support}
 use Rattle.laws.proofs.PlaceLaws.{narrowed-rows}
 use Rattle.model.specs.Rounds.{variablesOf}
 use Rattle.laws.proofs.NodeLaws.{in-variables, of-variables}

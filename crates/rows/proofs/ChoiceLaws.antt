@@ -8,9 +8,9 @@ use lib.ListN.{length, getD}
 use Rattle.model.specs.Words.{bit, bits, word, Words}
 use Rattle.model.specs.Solutions.{textBit}
 use Rattle.rows.proofs.TrimLaws.{some-bit}
+use Rattle.laws.specs.Supported.{Supports}
 use Rattle.laws.proofs.WordLaws.{zero-bit}
 use Rattle.laws.proofs.RowLaws.{length-used}
-use Rattle.laws.proofs.Supports.{Supports}
 
 module _ {K : Type 0} (Ok : K → Type 0) (text : K → List ℕ) (r : List ℕ) (s : Supports Ok (λ v. textBit (text v)) 64 r) where
   -- a length is left: some choice counts

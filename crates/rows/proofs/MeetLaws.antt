@@ -12,10 +12,11 @@ use Rattle.model.specs.Lists.{upto}
 use Rattle.model.specs.Words.{bit, word, Words}
 use Rattle.rows.specs.Rows.{met, joined}
 use Rattle.rows.proofs.Fill.{tabulated-length, tabulated-word}
+use Rattle.laws.specs.Supported.{InRow}
 use Rattle.laws.proofs.ListLaws.{and-true, true-and}
 use Rattle.laws.proofs.WordLaws.{zero-bit}
 use Rattle.laws.proofs.ShiftLaws.{bit-and}
-use Rattle.laws.proofs.RowLaws.{InRow, Short}
+use Rattle.laws.proofs.RowLaws.{Short}
 use Rattle.laws.proofs.Supports.{orWords}
 
 -- ---- a meet

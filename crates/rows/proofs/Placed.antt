@@ -18,7 +18,8 @@ use Rattle.model.specs.Support.{touches, narrowed}
 use Rattle.rows.specs.Rows.{alone, stored}
 use Rattle.rows.proofs.Alone.{together, Rows64, together-length, together-row, together-number}
 use Rattle.rows.proofs.StoreLaws.{stored-length, row-stored, row-stored-other, stored-untouched}
-use Rattle.laws.proofs.ListLaws.{In, getD-in}
+use Rattle.laws.specs.Inclusion.{In}
+use Rattle.laws.proofs.ListLaws.{getD-in}
 use Rattle.laws.proofs.DomainLaws.{row-length, row-word}
 use Rattle.laws.proofs.SupportLaws.{touched-value}
 use Rattle.laws.proofs.RenameLaws.{Places, renamed, pulled, Renamed, narrowed-renamed}

@@ -12,7 +12,7 @@ use Rattle.model.specs.Constraints.{Choice, Problem, Constraint, Automaton, alw
 use Rattle.model.specs.Support.{narrowed}
 use Rattle.model.specs.Rounds.{variablesOf}
 use Rattle.rows.specs.Rows.{alone, trimmed, stored}
-use Rattle.laws.proofs.ListLaws.{In}
+use Rattle.laws.specs.Inclusion.{In}
 use Rattle.laws.proofs.DomainLaws.{row-length}
 use Rattle.laws.proofs.SupportLaws.{narrowed-length}
 use Rattle.laws.proofs.NodeLaws.{of-variables}

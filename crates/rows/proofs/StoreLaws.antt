@@ -15,8 +15,8 @@ use Rattle.model.specs.Domains.{str, row}
 use Rattle.model.specs.Constraints.{Problem, Constraint, variables}
 use Rattle.model.specs.Support.{touches}
 use Rattle.rows.specs.Rows.{stored}
-use Rattle.laws.proofs.ListLaws.{In}
-use Rattle.laws.proofs.PartLaws.{Outside, word-before, word-after, other-block, replaced, replaced-length, part-replaced, replaced-outside}
+use Rattle.laws.specs.Inclusion.{In}
+use Rattle.laws.proofs.SliceLaws.{Outside, word-before, word-after, other-block, replaced, replaced-length, part-replaced, replaced-outside}
 use Rattle.laws.proofs.LayoutLaws.{part-length}
 use Rattle.laws.proofs.DomainLaws.{row-word}
 use Rattle.laws.proofs.SupportLaws.{touched-text}

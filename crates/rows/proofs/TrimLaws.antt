@@ -18,12 +18,14 @@ use Rattle.words.specs.Ends.{Highest}
 use Rattle.rows.specs.Rows.{alone, trimmed}
 use Rattle.rows.specs.Parts.{Run, Cut}
 use Rattle.rows.proofs.Fill.{tabulated-length, tabulated-word}
-use Rattle.laws.proofs.ListLaws.{In, getD-in, and-true, true-and}
+use Rattle.laws.specs.Inclusion.{In}
+use Rattle.laws.specs.Supported.{InRow, Supports}
+use Rattle.laws.proofs.ListLaws.{getD-in, and-true, true-and}
 use Rattle.laws.proofs.WordLaws.{zero-bit, no-bits, of-bits, in-bits}
 use Rattle.laws.proofs.ShiftLaws.{bit-and, bit-mask}
-use Rattle.laws.proofs.RowLaws.{InRow, of-strings, in-strings, short-of, length-used, symbol-used, symbol-inside, used-symbol, used-length, within-used, used-within}
+use Rattle.laws.proofs.RowLaws.{of-strings, in-strings, short-of, length-used, symbol-used, symbol-inside, used-symbol, used-length, within-used, used-within}
 use Rattle.laws.proofs.SupportLaws.{narrowed-length}
-use Rattle.laws.proofs.Supports.{Supports, one-support, none-support, moved-support, trim-support}
+use Rattle.laws.proofs.Supports.{one-support, none-support, moved-support, trim-support}
 
 -- ---- the definition of trimming, by support
 

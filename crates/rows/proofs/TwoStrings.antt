@@ -15,8 +15,7 @@ use Rattle.model.specs.Support.{narrowed}
 use Rattle.model.specs.Rounds.{variablesOf}
 use Rattle.rows.specs.Rows.{alone}
 use Rattle.rows.proofs.Alone.{rows-narrowed, no-words}
-use Rattle.laws.proofs.RowLaws.{InRow}
-use Rattle.laws.proofs.Supports.{Supports}
+use Rattle.laws.specs.Supported.{InRow, Supports}
 
 pub record Two : Type 0 where
   pub first : List ℕ

@@ -12,10 +12,10 @@ use borrow.Author.Tests.{ltb-true, ltb-false}
 use Rattle.model.specs.Words.{bit, word}
 use Rattle.model.specs.Solutions.{textBit}
 use Rattle.rows.specs.Parts.{Window}
+use Rattle.laws.specs.Supported.{Supports}
 use Rattle.laws.proofs.WordLaws.{zero-bit, pow-self, pow-only}
 use Rattle.laws.proofs.ShiftLaws.{bit-shr}
 use Rattle.laws.proofs.RowLaws.{length-used, symbol-used, symbol-inside, used-symbol, used-length}
-use Rattle.laws.proofs.Supports.{Supports}
 
 -- a string with this symbol at index j uses that bit
 pub uses-symbol : (w : List ℕ) (j b : ℕ) → j < length w → getD w j 0 ≡ b → bit (textBit w (suc j)) b ≡ true

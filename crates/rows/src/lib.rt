@@ -8,6 +8,12 @@ ghost use Rattle.model.specs.Domains.{row};
 ghost use Rattle.rows.specs.Rows.{trimmed, met, joined, stored};
 ghost use Rattle.rows.specs.Parts.{Run, Cut, Overlay, Window};
 
+// The rows of two strings X and Y.
+pub struct Pair {
+    pub x: [u64; 64],
+    pub y: [u64; 64],
+}
+
 // How many places, from the first on, each allow a symbol.
 fn run(row: [u64; 64]) -> usize
     ensures { λ r. ⌜ Run row r ⌝ }

@@ -10,8 +10,8 @@ use Rattle.model.specs.Words.{bit, bits, word, size}
 use Rattle.model.specs.Domains.{row}
 use Rattle.model.specs.Constraints.{Problem, Constraint}
 use Rattle.model.specs.Support.{narrowed, struck}
-use Rattle.laws.proofs.WordLaws.{Within}
-use Rattle.laws.proofs.TableLaws.{Below, below-of, select-length, bits-most, struck-size}
+use Rattle.laws.specs.Inclusion.{Within, Below}
+use Rattle.laws.proofs.TableLaws.{below-of, select-length, bits-most, struck-size}
 use Rattle.laws.proofs.SupportLaws.{narrowed-below}
 use Rattle.rows.specs.Rows.{stored}
 use Rattle.steps.specs.Step.{Step}

@@ -9,18 +9,22 @@ use native.Mathlib.Omega.{arith}
 use lib.ListN.{length, set}
 use Rattle.model.specs.Words.{word}
 use Rattle.model.specs.Domains.{row}
-use Rattle.model.specs.Constraints.{Problem, Constraint, width, always, cat, sub, len}
+use Rattle.model.specs.Constraints.{Problem, Constraint, width, always, eq, neq, rev, cat, sub, len}
 use Rattle.model.specs.Support.{narrowed, struck}
-use Rattle.laws.proofs.WordLaws.{Within}
-use Rattle.laws.proofs.TableLaws.{Below}
+use Rattle.laws.specs.Inclusion.{Within, Below}
 use Rattle.laws.proofs.DomainLaws.{row-length}
 use Rattle.rows.specs.Rows.{alone, trimmed, stored}
 use Rattle.rows.proofs.StoreLaws.{stored-length, row-stored-other, stored-after}
 use Rattle.rows.proofs.PlacedKinds.{trim-placed}
+use Rattle.eq.proofs.EqLaws.{eq-placed}
+use Rattle.neq.proofs.StepLaws.{neq-placed}
+use Rattle.rev.proofs.RevLaws.{rev-placed}
 use Rattle.cat.proofs.CatLaws.{cat-placed}
 use Rattle.sub.proofs.SubLaws.{sub-placed}
 use Rattle.len.proofs.LenLaws.{len-placed}
-use Rattle.steps.specs.Step.{Step}
+use Rattle.steps.specs.declared.Relation.{Relation}
+use Rattle.steps.specs.declared.Relation.the-variants.{Eq, Neq, Rev}
+use Rattle.steps.specs.Step.{between, Step}
 use Rattle.steps.proofs.CountLaws.{Fewer, then-fewer, row-fewer, number-fewer, below-front, below-back, below-narrowed, step-of}
 
 -- ---- what a relation leaves of each part is below that part: what `put` and `put_number` require
@@ -103,6 +107,29 @@ two-rows P c d T T₁ U x y n m a b p q ln hx hy ne ea eb e h k lp placed =
     let l₁ = s .same-length in
     let t = put-row T₁ y b q U m (omega arith) lq (s .other-row y ne ∙ sym eb) below k in
     step-of P c T U (n + m) (k .0 ∙ ap (λ (W : List ℕ). stored W y q) (h .0) ∙ placed p q lp lq (cc (e, ea, eb))) (then-fewer (s .fewer) (t .fewer))
+
+-- what each of them leaves of two rows, by its own law
+module _ (relation : Relation) (a r : List ℕ) where
+  pub by-eq : relation ≡ Eq → r ≡ narrowed (alone 2 0 []) (eq 0 1) a → r ≡ narrowed (alone 2 0 []) (between relation 0 1) a
+  unfolding between
+  by-eq e s = s ∙ ap (λ k. narrowed (alone 2 0 []) (between k 0 1) a) (sym e)
+
+  pub by-neq : relation ≡ Neq → r ≡ narrowed (alone 2 0 []) (neq 0 1) a → r ≡ narrowed (alone 2 0 []) (between relation 0 1) a
+  unfolding between
+  by-neq e s = s ∙ ap (λ k. narrowed (alone 2 0 []) (between k 0 1) a) (sym e)
+
+  pub by-rev : relation ≡ Rev → r ≡ narrowed (alone 2 0 []) (rev 0 1) a → r ≡ narrowed (alone 2 0 []) (between relation 0 1) a
+  unfolding between
+  by-rev e s = s ∙ ap (λ k. narrowed (alone 2 0 []) (between k 0 1) a) (sym e)
+
+-- the rows that one of them gives, put back into a table, make the narrowed table
+pub between-placed : (relation : Relation) (P : Problem) (x y : ℕ) → y ≢ x → x < P .strings → y < P .strings → (T : List ℕ) → length T ≡ width P → (rx ry : List ℕ)
+    → length rx ≡ 64 → length ry ≡ 64 → rx ++ ry ≡ narrowed (alone 2 0 []) (between relation 0 1) (row T x ++ row T y)
+    → stored (stored T x rx) y ry ≡ narrowed P (between relation x y) T
+unfolding between
+between-placed Eq = eq-placed
+between-placed Neq = neq-placed
+between-placed Rev = rev-placed
 
 -- ---- Cat
 

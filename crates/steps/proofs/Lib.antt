@@ -3,4 +3,4 @@
 pub mod CountLaws
 pub mod KindLaws
 pub mod NamedLaws
-pub mod MachineLaws
+pub mod RegularTableLaws

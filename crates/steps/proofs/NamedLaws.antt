@@ -10,12 +10,13 @@ use lib.Dec.{eqb}
 use lib.ListN.{length}
 use borrow.Author.Tests.{eq-eqb}
 use Rattle.model.specs.Domains.{Variable, str, num}
-use Rattle.model.specs.Constraints.{Problem, Constraint, width, variables, eq, neq, rev, cat, sub, len, regular}
+use Rattle.model.specs.Constraints.{Problem, Constraint, width, variables, cat, sub, len, regular}
 use Rattle.model.specs.Layout.{Bytes}
 use Rattle.model.specs.Reading.{repeats}
-use Rattle.laws.proofs.ListLaws.{In}
+use Rattle.laws.specs.Inclusion.{In}
+use Rattle.laws.specs.Lent.{lendable}
 use Rattle.laws.proofs.ReadingLaws.{Sound}
-use Rattle.laws.proofs.CallLaws.{lendable, lendable-length}
+use Rattle.laws.proofs.CallLaws.{lendable-length}
 use Rattle.layout.specs.declared.Parts.{Parts}
 use Rattle.records.specs.declared.Record.{Record}
 use Rattle.records.specs.declared.Record.the-variants.{Eq, Neq, Rev, Cat, Sub, Len, Regular}
@@ -23,7 +24,9 @@ use Rattle.records.specs.Records.{constraintOf}
 use Rattle.records.proofs.RecordLaws.{two-repeat, two-and-number-repeat, three-repeat}
 use Rattle.format.specs.Accepting.{contentOf, problemIn, Usable}
 use Rattle.format.proofs.ContentLaws.{usable-counts, usable-sound, usable-machine}
-use Rattle.steps.specs.Step.{Step}
+use Rattle.steps.specs.declared.Relation.{Relation}
+use Rattle.steps.specs.declared.Relation.the-variants as relation
+use Rattle.steps.specs.Step.{between, Step}
 
 differ : {x y : ℕ} → eqb x y ≡ false → y ≢ x
 differ {x} {y} e q = false≢true (sym e ∙ eq-eqb x y (sym q))
@@ -31,6 +34,27 @@ differ {x} {y} e q = false≢true (sym e ∙ eq-eqb x y (sym q))
 or-false : (a b : Bool) → (a || b) ≡ false → (a ≡ false) × (b ≡ false)
 or-false false b e = (refl, e)
 or-false true b e = absurd (false≢true (sym e))
+
+-- ---- a relation between two strings
+
+between-variables : (relation : Relation) (x y : ℕ) → variables (between relation x y) ≡ str x ∷ str y ∷ []
+unfolding between variables
+between-variables relation.Eq x y = refl
+between-variables relation.Neq x y = refl
+between-variables relation.Rev x y = refl
+
+module _ {r : Record} {x y : ℕ} where
+  pub is-eq : r ≡ Eq x y → constraintOf r ≡ between relation.Eq x y
+  unfolding constraintOf between
+  is-eq e = ap constraintOf e
+
+  pub is-neq : r ≡ Neq x y → constraintOf r ≡ between relation.Neq x y
+  unfolding constraintOf between
+  is-neq e = ap constraintOf e
+
+  pub is-rev : r ≡ Rev x y → constraintOf r ≡ between relation.Rev x y
+  unfolding constraintOf between
+  is-rev e = ap constraintOf e
 
 module _ (file : List ℕ) (p : Parts) (r : Record) (T : List ℕ) (b : Bytes file)
     (pre : Usable file p × (lendable (problemIn file p) T ≡ true) × In (constraintOf r) (problemIn file p .constraints)) where
@@ -74,32 +98,14 @@ module _ (file : List ℕ) (p : Parts) (r : Record) (T : List ℕ) (b : Bytes fi
       two-step : {U : List ℕ} {n : ℕ} → ((Q : Problem) → length T ≡ width Q → x < Q .strings → y < Q .strings → y ≢ x → Step Q c T U n) → Step P (constraintOf r) T U n
       two-step s = is-step (s P long first second (differ (sym (two-repeat x y) ∙ ap repeats (sym v) ∙ once)))
 
-  pub eq-inside : (x y : ℕ) → r ≡ Eq x y → (64 * x + 64 ≤ length T) × (64 * y + 64 ≤ length T)
-  unfolding constraintOf variables
-  eq-inside x y e = two-inside (eq x y) (ap constraintOf e) x y refl
+  -- Eq, Neq and Rev
+  module _ (relation : Relation) (x y : ℕ) (is : constraintOf r ≡ between relation x y) where
+    pub pair-inside : (64 * x + 64 ≤ length T) × (64 * y + 64 ≤ length T)
+    pair-inside = two-inside (between relation x y) is x y (between-variables relation x y)
 
-  pub eq-step : (x y : ℕ) → r ≡ Eq x y → {U : List ℕ} {n : ℕ}
-      → ((Q : Problem) → length T ≡ width Q → x < Q .strings → y < Q .strings → y ≢ x → Step Q (eq x y) T U n) → Step P (constraintOf r) T U n
-  unfolding constraintOf variables
-  eq-step x y e s = two-step (eq x y) (ap constraintOf e) x y refl s
-
-  pub neq-inside : (x y : ℕ) → r ≡ Neq x y → (64 * x + 64 ≤ length T) × (64 * y + 64 ≤ length T)
-  unfolding constraintOf variables
-  neq-inside x y e = two-inside (neq x y) (ap constraintOf e) x y refl
-
-  pub neq-step : (x y : ℕ) → r ≡ Neq x y → {U : List ℕ} {n : ℕ}
-      → ((Q : Problem) → length T ≡ width Q → x < Q .strings → y < Q .strings → y ≢ x → Step Q (neq x y) T U n) → Step P (constraintOf r) T U n
-  unfolding constraintOf variables
-  neq-step x y e s = two-step (neq x y) (ap constraintOf e) x y refl s
-
-  pub rev-inside : (x y : ℕ) → r ≡ Rev x y → (64 * x + 64 ≤ length T) × (64 * y + 64 ≤ length T)
-  unfolding constraintOf variables
-  rev-inside x y e = two-inside (rev x y) (ap constraintOf e) x y refl
-
-  pub rev-step : (x y : ℕ) → r ≡ Rev x y → {U : List ℕ} {n : ℕ}
-      → ((Q : Problem) → length T ≡ width Q → x < Q .strings → y < Q .strings → y ≢ x → Step Q (rev x y) T U n) → Step P (constraintOf r) T U n
-  unfolding constraintOf variables
-  rev-step x y e s = two-step (rev x y) (ap constraintOf e) x y refl s
+    pub pair-step : {U : List ℕ} {n : ℕ} → ((Q : Problem) → length T ≡ width Q → x < Q .strings → y < Q .strings → y ≢ x → Step Q (between relation x y) T U n)
+        → Step P (constraintOf r) T U n
+    pair-step s = two-step (between relation x y) is x y (between-variables relation x y) s
 
   -- ---- three
 

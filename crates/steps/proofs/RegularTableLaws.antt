@@ -11,13 +11,14 @@ use Rattle.model.specs.Domains.{row}
 use Rattle.model.specs.Constraints.{Problem, Automaton, regular, width}
 use Rattle.model.specs.Support.{narrowed, struck}
 use Rattle.model.specs.Reading.{symbolsBelow}
+use Rattle.laws.specs.Inclusion.{Below}
+use Rattle.laws.specs.Lent.{lendable}
 use Rattle.laws.proofs.ListLaws.{and-true}
-use Rattle.laws.proofs.TableLaws.{Below}
-use Rattle.laws.proofs.CallLaws.{lendable, lendable-length}
+use Rattle.laws.proofs.CallLaws.{lendable-length}
 use Rattle.rows.specs.Rows.{alone, stored}
 use Rattle.automata.specs.Machine.{machine, Whole}
 use Rattle.automata.specs.Walk.{Held, Starts}
-use Rattle.regular.specs.Sets.{Alphabet}
+use Rattle.regular.specs.PlaceSets.{Alphabet}
 use Rattle.regular.proofs.StateLaws.{row-alphabet}
 use Rattle.regular.proofs.RegularLaws.{regular-placed}
 use Rattle.layout.specs.declared.Parts.{Parts}

@@ -4,19 +4,17 @@
 ghost use mathlib.Core.Path.{_≡_};
 ghost use mathlib.Core.Logic.{_≢_};
 ghost use mathlib.Core.Bool.{true};
-ghost use mathlib.Core.List.{[], _∷_};
+ghost use mathlib.Core.List.{[], _∷_, _++_};
 ghost use Prim.Native.Nat.{ℕ, _+_, _*_, _<_, _≤_};
 ghost use lib.ListN.{length, set};
-ghost use Rattle.model.specs.Constraints.{Problem, width, always, eq, neq, rev, cat, sub, len, regular};
-ghost use Rattle.model.specs.Support.{struck};
-ghost use Rattle.laws.proofs.ListLaws.{In};
-ghost use Rattle.laws.proofs.WordLaws.{Within};
-ghost use Rattle.laws.proofs.TableLaws.{Below};
-ghost use Rattle.laws.proofs.CallLaws.{lendable};
-ghost use Rattle.rows.specs.Rows.{stored};
+ghost use Rattle.model.specs.Constraints.{Problem, width, always, cat, sub, len, regular};
+ghost use Rattle.model.specs.Support.{narrowed, struck};
+ghost use Rattle.laws.specs.Inclusion.{In, Within, Below};
+ghost use Rattle.laws.specs.Lent.{lendable};
+ghost use Rattle.rows.specs.Rows.{alone, stored};
 ghost use Rattle.records.specs.Records.{constraintOf};
 ghost use Rattle.format.specs.Accepting.{problemIn, Usable};
-ghost use Rattle.steps.specs.Step.{Step};
+ghost use Rattle.steps.specs.Step.{between, Step};
 
 // How many bits a word lost. Most words lose none, and counting is dear.
 fn fewer(old: u64, new: u64) -> u32
@@ -70,43 +68,33 @@ pub fn trim(table: &mut [u64], x: usize) -> u32
     put(table, x, a, rows::trim(a))
 }
 
-// Eq(X, Y).
-fn eq_at(table: &mut [u64], x: usize, y: usize) -> u32
-    requires { ⌜ (64 * x + 64 ≤ length (now table)) × (64 * y + 64 ≤ length (now table)) ⌝ }
-    ensures { λ r. ⌜ ((P : Problem) → length (now (table .entry)) ≡ width P → x < P .strings → y < P .strings → y ≢ x
-        → Step P (eq x y) (now (table .entry)) (now (table .exit)) r) ⌝ }
-{
-    let a = rows::load(table, x);
-    let b = rows::load(table, y);
-    let n = eq::narrow(a, b);
-    let p = n.x;
-    let q = n.y;
-    put(table, x, a, p) + put(table, y, b, q)
+// The relations between two strings.
+enum Relation {
+    Eq,
+    Neq,
+    Rev,
 }
 
-// Neq(X, Y).
-fn neq_at(table: &mut [u64], x: usize, y: usize) -> u32
-    requires { ⌜ (64 * x + 64 ≤ length (now table)) × (64 * y + 64 ≤ length (now table)) ⌝ }
-    ensures { λ r. ⌜ ((P : Problem) → length (now (table .entry)) ≡ width P → x < P .strings → y < P .strings → y ≢ x
-        → Step P (neq x y) (now (table .entry)) (now (table .exit)) r) ⌝ }
+// The rows of X and Y, narrowed by one of them.
+fn narrow_pair(relation: Relation, x: [u64; 64], y: [u64; 64]) -> rows::Pair
+    ensures { λ n. ⌜ n .x ++ n .y ≡ narrowed (alone 2 0 []) (between relation 0 1) (x ++ y) ⌝ }
 {
-    let a = rows::load(table, x);
-    let b = rows::load(table, y);
-    let n = neq::narrow(a, b);
-    let p = n.x;
-    let q = n.y;
-    put(table, x, a, p) + put(table, y, b, q)
+    match relation {
+        Relation::Eq => eq::narrow(x, y),
+        Relation::Neq => neq::narrow(x, y),
+        Relation::Rev => rev::narrow(x, y),
+    }
 }
 
-// Rev(X, Y).
-fn rev_at(table: &mut [u64], x: usize, y: usize) -> u32
+// Eq(X, Y), Neq(X, Y) or Rev(X, Y).
+fn pair_at(table: &mut [u64], relation: Relation, x: usize, y: usize) -> u32
     requires { ⌜ (64 * x + 64 ≤ length (now table)) × (64 * y + 64 ≤ length (now table)) ⌝ }
     ensures { λ r. ⌜ ((P : Problem) → length (now (table .entry)) ≡ width P → x < P .strings → y < P .strings → y ≢ x
-        → Step P (rev x y) (now (table .entry)) (now (table .exit)) r) ⌝ }
+        → Step P (between relation x y) (now (table .entry)) (now (table .exit)) r) ⌝ }
 {
     let a = rows::load(table, x);
     let b = rows::load(table, y);
-    let n = rev::narrow(a, b);
+    let n = narrow_pair(relation, a, b);
     let p = n.x;
     let q = n.y;
     put(table, x, a, p) + put(table, y, b, q)
@@ -174,9 +162,9 @@ pub fn narrow(file: &[u8], p: layout::Parts, r: records::Record, table: &mut [u6
     ensures { λ n. ⌜ Step (problemIn (now (file .entry)) p) (constraintOf r) (now (table .entry)) (now (table .exit)) n ⌝ }
 {
     match r {
-        records::Record::Eq(x, y) => eq_at(table, x as usize, y as usize),
-        records::Record::Neq(x, y) => neq_at(table, x as usize, y as usize),
-        records::Record::Rev(x, y) => rev_at(table, x as usize, y as usize),
+        records::Record::Eq(x, y) => pair_at(table, Relation::Eq, x as usize, y as usize),
+        records::Record::Neq(x, y) => pair_at(table, Relation::Neq, x as usize, y as usize),
+        records::Record::Rev(x, y) => pair_at(table, Relation::Rev, x as usize, y as usize),
         records::Record::Cat(x, y, z) => cat_at(table, x as usize, y as usize, z as usize),
         records::Record::Sub(x, y, n) => sub_at(
             table,

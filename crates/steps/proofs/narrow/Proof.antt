@@ -1,59 +1,56 @@
-use Rattle.steps.proofs.NamedLaws.{eq-inside, eq-step, neq-inside, neq-step, rev-inside, rev-step, cat-inside, cat-step}
-use Rattle.steps.proofs.NamedLaws.{sub-inside, sub-step, len-inside, len-step, regular-there, regular-step}
+use Rattle.steps.proofs.NamedLaws.{is-eq, is-neq, is-rev, pair-inside, pair-step, cat-inside, cat-step, sub-inside, sub-step, len-inside, len-step, regular-there, regular-step}
 use borrow.Author.Needs.{needs}
 use Rattle.steps.proofs.narrow.Statement.{statement}
 use Rattle.steps.proofs.narrow.Tie as tie
 use Rattle.steps.proofs.narrow.Reads as reads
 use Rattle.steps.proofs.narrow.Lts as lts
 use Rattle.steps.proofs.cat_at.Reads as cat-at-reads
-use Rattle.steps.proofs.eq_at.Reads as eq-at-reads
 use Rattle.steps.proofs.len_at.Reads as len-at-reads
-use Rattle.steps.proofs.neq_at.Reads as neq-at-reads
 use Rattle.steps.proofs.regular_at.Reads as regular-at-reads
-use Rattle.steps.proofs.rev_at.Reads as rev-at-reads
+use Rattle.steps.proofs.pair_at.Reads as pair-at-reads
 use Rattle.steps.proofs.sub_at.Reads as sub-at-reads
 
 enum-known-r : tie.Need-enum-known-r
 enum-known-r c = search needs
 
-cast-eq-at : tie.Need-cast-eq-at
-cast-eq-at c = search needs
+cast-pair-at : tie.Need-cast-pair-at
+cast-pair-at c = search needs
 
-cast-eq-at-2 : tie.Need-cast-eq-at-2
-cast-eq-at-2 c = search needs
+cast-pair-at-2 : tie.Need-cast-pair-at-2
+cast-pair-at-2 c = search needs
 
-eq-at-requires : tie.Need-eq-at-requires
-eq-at-requires c κs =
+pair-at-requires : tie.Need-pair-at-requires
+pair-at-requires c κs =
     let known = c .before .before .before .before .before in
-    eq-inside _ _ _ _ (λ i. known .shared-slice-known .given i .fits) (known .before .pre) _ _ (c .before .before .r .given .1)
+    pair-inside _ _ _ _ (λ i. known .shared-slice-known .given i .fits) (known .before .pre) _ _ _ (is-eq (c .before .before .r .given .1))
 
 enum-known-r-2 : tie.Need-enum-known-r-2
 enum-known-r-2 c = search needs
 
-cast-neq-at : tie.Need-cast-neq-at
-cast-neq-at c = search needs
+cast-pair-at-3 : tie.Need-cast-pair-at-3
+cast-pair-at-3 c = search needs
 
-cast-neq-at-2 : tie.Need-cast-neq-at-2
-cast-neq-at-2 c = search needs
+cast-pair-at-4 : tie.Need-cast-pair-at-4
+cast-pair-at-4 c = search needs
 
-neq-at-requires : tie.Need-neq-at-requires
-neq-at-requires c κs =
+pair-at-requires-2 : tie.Need-pair-at-requires-2
+pair-at-requires-2 c κs =
     let known = c .before .before .before .before .before in
-    neq-inside _ _ _ _ (λ i. known .shared-slice-known .given i .fits) (known .before .pre) _ _ (c .before .before .r2 .given .1)
+    pair-inside _ _ _ _ (λ i. known .shared-slice-known .given i .fits) (known .before .pre) _ _ _ (is-neq (c .before .before .r2 .given .1))
 
 enum-known-r-3 : tie.Need-enum-known-r-3
 enum-known-r-3 c = search needs
 
-cast-rev-at : tie.Need-cast-rev-at
-cast-rev-at c = search needs
+cast-pair-at-5 : tie.Need-cast-pair-at-5
+cast-pair-at-5 c = search needs
 
-cast-rev-at-2 : tie.Need-cast-rev-at-2
-cast-rev-at-2 c = search needs
+cast-pair-at-6 : tie.Need-cast-pair-at-6
+cast-pair-at-6 c = search needs
 
-rev-at-requires : tie.Need-rev-at-requires
-rev-at-requires c κs =
+pair-at-requires-3 : tie.Need-pair-at-requires-3
+pair-at-requires-3 c κs =
     let known = c .before .before .before .before .before in
-    rev-inside _ _ _ _ (λ i. known .shared-slice-known .given i .fits) (known .before .pre) _ _ (c .before .before .r3 .given .1)
+    pair-inside _ _ _ _ (λ i. known .shared-slice-known .given i .fits) (known .before .pre) _ _ _ (is-rev (c .before .before .r3 .given .1))
 
 enum-known-r-4 : tie.Need-enum-known-r-4
 enum-known-r-4 c = search needs
@@ -135,7 +132,7 @@ same-length c = search needs
 returns : tie.Need-returns
 returns c =
     let known = c .before .before .before .before .before .before .before .before in
-    eq-step _ _ _ _ (λ i. known .shared-slice-known .given i .fits) (known .before .pre) _ _ (c .before .before .before .before .before .r .given .1) (c .before .before .eq-at .ensures)
+    pair-step _ _ _ _ (λ i. known .shared-slice-known .given i .fits) (known .before .pre) _ _ _ (is-eq (c .before .before .before .before .before .r .given .1)) (c .before .before .pair-at .ensures)
 
 same-length-2 : tie.Need-same-length-2
 same-length-2 c = search needs
@@ -143,7 +140,7 @@ same-length-2 c = search needs
 returns-2 : tie.Need-returns-2
 returns-2 c =
     let known = c .before .before .before .before .before .before .before .before in
-    neq-step _ _ _ _ (λ i. known .shared-slice-known .given i .fits) (known .before .pre) _ _ (c .before .before .before .before .before .r2 .given .1) (c .before .before .neq-at .ensures)
+    pair-step _ _ _ _ (λ i. known .shared-slice-known .given i .fits) (known .before .pre) _ _ _ (is-neq (c .before .before .before .before .before .r2 .given .1)) (c .before .before .pair-at2 .ensures)
 
 same-length-3 : tie.Need-same-length-3
 same-length-3 c = search needs
@@ -151,7 +148,7 @@ same-length-3 c = search needs
 returns-3 : tie.Need-returns-3
 returns-3 c =
     let known = c .before .before .before .before .before .before .before .before in
-    rev-step _ _ _ _ (λ i. known .shared-slice-known .given i .fits) (known .before .pre) _ _ (c .before .before .before .before .before .r3 .given .1) (c .before .before .rev-at .ensures)
+    pair-step _ _ _ _ (λ i. known .shared-slice-known .given i .fits) (known .before .pre) _ _ _ (is-rev (c .before .before .before .before .before .r3 .given .1)) (c .before .before .pair-at3 .ensures)
 
 same-length-4 : tie.Need-same-length-4
 same-length-4 c = search needs
@@ -190,17 +187,17 @@ narrow-spec =
     tie.close
     (tie.spec
     enum-known-r
-    cast-eq-at
-    cast-eq-at-2
-    eq-at-requires
+    cast-pair-at
+    cast-pair-at-2
+    pair-at-requires
     enum-known-r-2
-    cast-neq-at
-    cast-neq-at-2
-    neq-at-requires
+    cast-pair-at-3
+    cast-pair-at-4
+    pair-at-requires-2
     enum-known-r-3
-    cast-rev-at
-    cast-rev-at-2
-    rev-at-requires
+    cast-pair-at-5
+    cast-pair-at-6
+    pair-at-requires-3
     enum-known-r-4
     cast-cat-at
     cast-cat-at-2

@@ -1,13 +1,12 @@
 use native.Mathlib.Omega.{arith}
-use Rattle.eq.proofs.EqLaws.{eq-placed}
 use Rattle.steps.proofs.CountLaws.{row-most}
-use Rattle.steps.proofs.KindLaws.{front-left, back-left, two-rows}
+use Rattle.steps.proofs.KindLaws.{front-left, back-left, two-rows, between-placed}
 use borrow.Author.Needs.{needs}
-use Rattle.steps.proofs.eq_at.Statement.{statement}
-use Rattle.steps.proofs.eq_at.Tie as tie
-use Rattle.steps.proofs.eq_at.Reads as reads
-use Rattle.steps.proofs.eq_at.Lts as lts
-use Rattle.eq.proofs.narrow.Reads as narrow-reads
+use Rattle.steps.proofs.pair_at.Statement.{statement}
+use Rattle.steps.proofs.pair_at.Tie as tie
+use Rattle.steps.proofs.pair_at.Reads as reads
+use Rattle.steps.proofs.pair_at.Lts as lts
+use Rattle.steps.proofs.narrow_pair.Reads as narrow-pair-reads
 use Rattle.rows.proofs.load.Reads as load-reads
 use Rattle.steps.proofs.put.Reads as put-reads
 
@@ -17,16 +16,16 @@ load-requires c κs = search needs
 load-requires-2 : tie.Need-load-requires-2
 load-requires-2 c κs = search needs
 
-narrow-requires : tie.Need-narrow-requires
-narrow-requires c κs = search needs
+narrow-pair-requires : tie.Need-narrow-pair-requires
+narrow-pair-requires c κs = search needs
 
 put-requires : tie.Need-put-requires
-put-requires c κs = (search needs, front-left _ _ _ _ _ _ (c .before .before .before .narrow .ensures) (search needs) (search needs))
+put-requires c κs = (search needs, front-left _ _ _ _ _ _ (c .before .before .before .narrow-pair .ensures) (search needs) (search needs))
 
 put-requires-2 : tie.Need-put-requires-2
 put-requires-2 c κs =
     let s = c .before .before .before .before .before .before .before in
-    (search needs, back-left _ _ (s .before .before .before .load .result) _ (s .narrow .result .x) _ (s .narrow .ensures) (search needs) (search needs))
+    (search needs, back-left _ _ (s .before .before .before .load .result) _ (s .narrow-pair .result .x) _ (s .narrow-pair .ensures) (search needs) (search needs))
 
 add-result : tie.Need-add-result
 add-result c =
@@ -46,16 +45,16 @@ returns : tie.Need-returns
 returns c =
     let s = c .before .before .before .before .before .before .before .before .before .before in
     λ P ln hx hy ne. two-rows P _ _ _ _ _ _ _ _ _ _ _ _ _ ln hx hy ne
-    (s .before .before .before .load .ensures) (s .before .load2 .ensures) (s .narrow .ensures)
-    (c .before .before .before .before .before .before .put .ensures) (c .before .before .put2 .ensures) (search needs) (eq-placed P _ _ ne hx hy _ ln)
+    (s .before .before .before .load .ensures) (s .before .load2 .ensures) (s .narrow-pair .ensures)
+    (c .before .before .before .before .before .before .put .ensures) (c .before .before .put2 .ensures) (search needs) (between-placed _ P _ _ ne hx hy _ ln)
 
-pub eq-at-spec : {M : Type 1} → statement M
-eq-at-spec =
+pub pair-at-spec : {M : Type 1} → statement M
+pair-at-spec =
     tie.close
     (tie.spec
     load-requires
     load-requires-2
-    narrow-requires
+    narrow-pair-requires
     put-requires
     put-requires-2
     add-result

@@ -1,4 +1,4 @@
-use Rattle.steps.proofs.MachineLaws.{automaton-named, string-inside, machine-there, regular-puts, regular-steps}
+use Rattle.steps.proofs.RegularTableLaws.{automaton-named, string-inside, machine-there, regular-puts, regular-steps}
 use borrow.Author.Needs.{needs}
 use Rattle.steps.proofs.regular_at.Statement.{statement}
 use Rattle.steps.proofs.regular_at.Tie as tie
