@@ -10,13 +10,14 @@ use borrow.Author.Tests.{eq-eqb, ne-eqb, le-ltb}
 use Rattle.model.specs.Words.{Words}
 use Rattle.model.specs.Constraints.{Problem, width}
 use Rattle.model.specs.Solutions.{WellFormed}
-use Rattle.model.specs.Rounds.{alive, settling, settled}
+use Rattle.model.specs.Rounds.{everyValue, settling, settled}
 use Rattle.model.specs.Replies.{refused, answered, leaves}
 use Rattle.model.specs.Layout.{Bytes}
 use Rattle.model.specs.Reading.{symbolsBelow, reading}
 use Rattle.model.specs.Operations.{stepAt, stepCount, Stepped, step, Settlement, settle}
-use Rattle.laws.proofs.RoundLaws.{Stable, settled-below, settled-stable}
-use Rattle.laws.proofs.CallLaws.{lendable, unlendable, lendable-length, step-lendable, step-too-far, step-other, settle-lendable, settle-other}
+use Rattle.laws.specs.Lent.{Stable, lendable, unlendable}
+use Rattle.laws.proofs.RoundLaws.{settled-below, settled-stable}
+use Rattle.laws.proofs.CallLaws.{lendable-length, step-lendable, step-too-far, step-other, settle-lendable, settle-other}
 use Rattle.laws.proofs.Demand.{step-refused, settle-refused}
 use Rattle.layout.specs.declared.Parts.{Parts}
 use Rattle.layout.specs.declared.Layout.{Layout}
@@ -173,13 +174,13 @@ module _ (file : List ℕ) (l : Layout) (told : (replyOf file l ≡ accepted fil
       rows-there = let c = usable-counts file p (usable p q) in omega (arith, c .strings, long)
 
       pub settle-done : Bytes file → Words T → (v : Bool)
-          → ((P : Problem) → WellFormed P → p .s ≡ P .strings → length U ≡ width P → Stable P U → v ≡ alive P U) → SettleAnswers U (ofSettle.Settled (record { count = k; «every_value» = v }))
+          → ((P : Problem) → WellFormed P → p .s ≡ P .strings → length U ≡ width P → Stable P U → v ≡ everyValue P U) → SettleAnswers U (ofSettle.Settled (record { count = k; «every_value» = v }))
       unfolding settleReply leaves
       settle-done b w v looked =
           let P : Problem = problemIn file p in
           let c = usable-counts file p (usable p q) in
           let stable : Stable P U = rw (done .1) (settled-stable P T w) in
-          let a : v ≡ alive P U = looked P (usable-sound file p (usable p q) b .well-formed) (sym (c .strings)) long stable in
+          let a : v ≡ everyValue P U = looked P (usable-sound file p (usable p q) b .well-formed) (sym (c .strings)) long stable in
           let e = settles ∙ settle-lendable (contentOf file p) T (table-lent p q n number z .1) in
           let same : answered (record { rounds = k; everyValue = v; table = U }) ≡ settle (reading file) T =
           cc (e, done .0, done .1, a) in

@@ -1,5 +1,5 @@
 -- The laws of the entries, by what looking the file over gave: what reading it gives, Read and Unpack; Step and Settle; Search; a list of calls.
 pub mod AnswerLaws
 pub mod LentLaws
-pub mod SearchLaws
+pub mod SearchEntryLaws
 pub mod PerformLaws

@@ -15,7 +15,7 @@ use Rattle.model.specs.Reading.{Accepted, reading}
 use Rattle.model.specs.Operations.{Searched, search}
 use Rattle.model.specs.Claim.{SearchClaim}
 use Rattle.laws.proofs.ReplyLaws.{refused≢answered, answered-inj}
-use Rattle.laws.proofs.SearchLaws.{none≢found, spent≢found}
+use Rattle.laws.proofs.BudgetLaws.{none≢found, spent≢found, spent≢none}
 use Rattle.laws.proofs.Demand.{demand-3}
 use Rattle.layout.specs.declared.Parts.{Parts}
 use Rattle.layout.specs.declared.Layout.{Layout}
@@ -46,6 +46,17 @@ is-found R U (ofSearch.Found m) z n e o =
 is-found R U (ofSearch.None m) z n e o = absurd (none≢found (ap (λ (y : Searched). y .outcome) (answered-inj e) ∙ o))
 is-found R U (ofSearch.Spent m) z n e o = absurd (spent≢found (ap (λ (y : Searched). y .outcome) (answered-inj e) ∙ o))
 
+-- an answer that the model calls none
+is-none : (R U : List ℕ) (r : SearchAnswer) (z : Searched) (n : ℕ) → searchReply R U r ≡ answered z → z .outcome ≡ none n → r ≡ ofSearch.None n
+unfolding searchReply
+is-none R U (ofSearch.Refused m) z n e o = absurd (refused≢answered e)
+is-none R U (ofSearch.Found m) z n e o = absurd (none≢found (sym o ∙ ap (λ (y : Searched). y .outcome) (sym (answered-inj e))))
+is-none R U (ofSearch.None m) z n e o =
+    let f : none m ≡ none n = ap (λ (y : Searched). y .outcome) (answered-inj e) ∙ o in
+    let k : m ≡ n = cc in
+    ap ofSearch.None k
+is-none R U (ofSearch.Spent m) z n e o = absurd (spent≢none (ap (λ (y : Searched). y .outcome) (answered-inj e) ∙ o))
+
 -- a search with room enough and an answer table that fits is answered
 search-fitting : (a : Accepted) (budget : ℕ) (R A : List ℕ) → 3 * width (a .problem) ≤ length R → length A ≡ width (a .problem)
     → search (answered a) budget R A ≡ answered (record {
@@ -60,16 +71,26 @@ module _ (file : List ℕ) (bytes : Bytes file) (budget : ℕ) (R A : List ℕ) 
   claim : (a : Accepted) → reading file ≡ answered a → (z : Searched) → search (reading file) budget R A ≡ answered z → SearchClaim a budget z
   claim a e z s = demand-3 file bytes .searching a e budget R A z s
 
+  -- the claim, where room and answer table fit
+  fitting : (a : Accepted) → reading file ≡ answered a → 3 * width (a .problem) ≤ length R → length A ≡ width (a .problem)
+      → (z : Searched) × (search (reading file) budget R A ≡ answered z) × SearchClaim a budget z
+  fitting a i h k = let x = ap (λ r. search r budget R A) i ∙ search-fitting a budget R A h k in (_, x, claim a i _ x)
+
   search-holds : (R′ U : List ℕ) (r : SearchAnswer) → searchReply R′ U r ≡ search (reading file) budget R A → SearchHolds file budget R A r U
   unfolding searchReply
   search-holds R′ U r e = record {
     first = λ a i n f. claim a i (record { outcome = found n; room = R′; table = U }) (sym e ∙ ap (searchReply R′ U) f) .first n refl;
     empty = λ a i n f. claim a i (record { outcome = none n; room = R′; table = U }) (sym e ∙ ap (searchReply R′ U) f) .empty n refl;
     near = λ a i h k before after S t ns s l.
-        let x = ap (λ r. search r budget R A) i ∙ search-fitting a budget R A h k in
-        let c = claim a i _ x .near before after S t ns s l in
-        let f = is-found R′ U r _ _ (e ∙ x) (c .0) in
+        let x = fitting a i h k in
+        let c = x .2 .near before after S t ns s l in
+        let f = is-found R′ U r _ _ (e ∙ x .1) (c .0) in
         (f .0, f .1 ∙ c .1);
+    whole = λ a i h k l α s.
+        let x = fitting a i h k in
+        let c = x .2 .whole l α s in
+        (c .0, is-found R′ U r _ _ (e ∙ x .1) (c .1) .0);
+    nothing = λ a i h k l none. let x = fitting a i h k in is-none R′ U r _ _ (e ∙ x .1) (x .2 .nothing l none);
   }
 
   module _ (l : Layout) (told : (replyOf file l ≡ accepted file) × Fitted file l) where

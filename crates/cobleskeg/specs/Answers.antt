@@ -6,7 +6,7 @@ use Rattle.model.specs.Constraints.{Problem}
 use Rattle.model.specs.Tree.{found, none, spent}
 use Rattle.model.specs.Replies.{Reply, refused, answered}
 use Rattle.model.specs.Operations as model
-use Rattle.laws.proofs.CallLaws.{lendable, unlendable}
+use Rattle.laws.specs.Lent.{lendable, unlendable}
 use Rattle.cobleskeg.specs.declared.Header.{Header}
 use Rattle.cobleskeg.specs.declared.ReadAnswer.{ReadAnswer}
 use Rattle.cobleskeg.specs.declared.ReadAnswer.the-variants as ofRead

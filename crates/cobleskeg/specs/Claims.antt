@@ -28,6 +28,12 @@ pub record SearchHolds (file : List ℕ) (budget : ℕ) (R A : List ℕ) (r : Se
   pub near : (a : Accepted) → reading file ≡ answered a → 3 * width (a .problem) ≤ length R → length A ≡ width (a .problem)
       → (before after : List (List ℕ)) (S : List ℕ) → nodes (a .problem) (a .table) ≡ before ++ S ∷ after → NoneSolved (a .problem) before
       → solved (a .problem) S ≡ true → length before < budget → (r ≡ Found (suc (length before))) × (U ≡ S)
+  -- "with a budget for the whole tree it says found when there is a solution, and otherwise none": none with the tree's count
+  pub whole : (a : Accepted) → reading file ≡ answered a → 3 * width (a .problem) ≤ length R → length A ≡ width (a .problem)
+      → length (nodes (a .problem) (a .table)) ≤ budget → (α : Choice) → Solution (a .problem) (a .table) α → (n : ℕ) × (r ≡ Found n)
+  pub nothing : (a : Accepted) → reading file ≡ answered a → 3 * width (a .problem) ≤ length R → length A ≡ width (a .problem)
+      → length (nodes (a .problem) (a .table)) ≤ budget → ((α : Choice) → Solution (a .problem) (a .table) α → ⊥)
+      → r ≡ None (length (nodes (a .problem) (a .table)))
 
 -- ---- a list of calls
 

@@ -1,8 +1,9 @@
 -- What each function of the C interface returns and leaves, by what the entry below it answered. Assumes nothing.
-use mathlib.Core.Path.{_≡_, refl, sym, ap, _∙_}
+use mathlib.Core.Path.{_≡_, refl, sym, ap, subst, _∙_}
 use mathlib.Core.Bool.{Bool, true, false}
 use mathlib.Core.List.{List}
 use Prim.Native.Nat.{ℕ}
+use lib.Dec.{eqb}
 use mir.Val.{boolByte}
 use Rattle.model.specs.Tree.{Outcome, found, none, spent}
 use Rattle.model.specs.Replies.{Reply, refused, answered, leaves}
@@ -19,9 +20,11 @@ use Rattle.cobleskeg.specs.declared.SettleAnswer.{SettleAnswer}
 use Rattle.cobleskeg.specs.declared.SettleAnswer.the-variants as ofSettle
 use Rattle.cobleskeg.specs.declared.SearchAnswer.{SearchAnswer}
 use Rattle.cobleskeg.specs.declared.SearchAnswer.the-variants as ofSearch
+use Rattle.cobleskeg.specs.Claims.{SearchHolds}
 use Rattle.cobleskeg.specs.Answers.{headerOf, readReply, unpackReply, stepReply, settleReply, searchReply}
-use Rattle.cobleskeg_c.specs.Numbers.{refusal, writes, bitOf, outcomeNumber, outcomeNodes}
-use Rattle.cobleskeg_c.proofs.NumberLaws.{refused-number, refused-stays, answered-number, answered-written}
+use Rattle.cobleskeg_c.specs.Numbers.{refusal, writes, bitOf, outcomeNumber, outcomeNodes, searchAnswer}
+use Rattle.cobleskeg_c.proofs.ZeroLaws.{Numbered, above-zero}
+use Rattle.cobleskeg_c.proofs.ReturnLaws.{refused-number, refused-stays, answered-number, answered-written}
 
 -- ---- Read
 
@@ -127,3 +130,27 @@ module _ (S U : List ℕ) (a : SearchAnswer) (R : Reply Searched) (told : search
   pub search-spent : a ≡ ofSearch.Spent n → SearchLeaves 0 3 n
   unfolding searchReply outcomeNumber outcomeNodes
   search-spent q = ends (spent n) (ap (searchReply S U) (sym q) ∙ told)
+
+-- the number returned and the results stand for the answer, so what is claimed of the answer is claimed of them
+module _ (file : List ℕ) (budget : ℕ) (R A U : List ℕ) (a : SearchAnswer) (claim : SearchHolds file budget R A a U) (n : ℕ) where
+  abbrev Claimed : SearchAnswer → Type 0
+  Claimed b = SearchHolds file budget R A b U
+
+  pub refused-holds : (S : List ℕ) (r : Reply Searched) → searchReply S U a ≡ r → Numbered r → a ≡ ofSearch.Refused n
+      → (outcome nodes : ℕ) → Claimed (searchAnswer n outcome nodes)
+  unfolding searchReply searchAnswer
+  refused-holds S r told numbered q outcome nodes =
+      let z : eqb n 0 ≡ false = above-zero r numbered n (sym told ∙ ap (searchReply S U) q) in
+      rw z (subst Claimed q claim)
+
+  pub found-holds : a ≡ ofSearch.Found n → Claimed (searchAnswer 0 1 n)
+  unfolding searchAnswer
+  found-holds q = subst Claimed q claim
+
+  pub none-holds : a ≡ ofSearch.None n → Claimed (searchAnswer 0 2 n)
+  unfolding searchAnswer
+  none-holds q = subst Claimed q claim
+
+  pub spent-holds : a ≡ ofSearch.Spent n → Claimed (searchAnswer 0 3 n)
+  unfolding searchAnswer
+  spent-holds q = subst Claimed q claim

@@ -1,4 +1,4 @@
 -- The laws of the C interface.
-pub mod NumberLaws
+pub mod ReturnLaws
 pub mod EntryLaws
 pub mod ZeroLaws

@@ -1,14 +1,15 @@
 -- 0 is returned just where the operation is accepted: no refusal has that number. Assumes nothing.
-use mathlib.Core.Path.{_≡_, refl, subst}
+use mathlib.Core.Path.{_≡_, refl, sym, subst}
 use mathlib.Core.Bool.{Bool, true, false}
 use mathlib.Core.List.{List}
 use mathlib.Core.Option.{Option, none, some}
-use Prim.Native.Nat.{ℕ}
-use lib.Dec.{T as Holds, ltb}
+use Prim.Native.Nat.{ℕ, zero, suc}
+use lib.Dec.{T as Holds, eqb, ltb, eqb·suc-zero}
 use Rattle.model.specs.Replies.{Reply, refused, answered, require, obtain, andThen}
 use Rattle.model.specs.Layout.{layout}
 use Rattle.model.specs.Reading.{Reading, problemOf, reading}
 use Rattle.model.specs.Operations.{read, requireLength, unpack, onTable, step, settle, search}
+use Rattle.laws.proofs.ReplyLaws.{refused≢answered}
 use Rattle.cobleskeg_c.specs.Numbers.{refusal}
 
 -- a refusal has a number above 0
@@ -26,6 +27,14 @@ module _ {A : Type 0} where
   unfolding refusal
   zero-accepts (refused n) (by-number h) e = absurd (subst (λ (m : ℕ). Holds (ltb 0 m)) e h)
   zero-accepts (answered a) k e = (a, refl)
+
+  pub above-zero : (r : Reply A) → Numbered r → (n : ℕ) → r ≡ refused n → eqb n 0 ≡ false
+  above-zero r (by-number {n = m} h) n e = let q : m ≡ n = cc in subst (λ (i : ℕ). eqb i 0 ≡ false) q (positive m h)
+    where
+      positive : (m : ℕ) → Holds (ltb 0 m) → eqb m 0 ≡ false
+      positive zero h = absurd h
+      positive (suc m) h = eqb·suc-zero m
+  above-zero r by-answer n e = absurd (refused≢answered (sym e))
 
 module _ {A B : Type 0} where
   pub obtain-numbered : (o : Option A) (n : ℕ) (f : A → Reply B) → Holds (ltb 0 n) → ((a : A) → Numbered (f a)) → Numbered (obtain o n f)

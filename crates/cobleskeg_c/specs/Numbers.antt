@@ -1,8 +1,11 @@
 -- The numbers that stand for answers in the C interface. Assumes nothing.
 use mathlib.Core.Bool.{Bool, cond}
 use Prim.Native.Nat.{ℕ}
+use lib.Dec.{eqb}
 use Rattle.model.specs.Tree.{Outcome, found, none, spent}
 use Rattle.model.specs.Replies.{Reply, refused, answered}
+use Rattle.cobleskeg.specs.declared.SearchAnswer.{SearchAnswer}
+use Rattle.cobleskeg.specs.declared.SearchAnswer.the-variants.{Refused, Found, None, Spent}
 
 -- the paper's number of the refusal, and 0 for none
 unfoldable pub refusal : {A : Type 0} → Reply A → ℕ
@@ -27,3 +30,7 @@ unfoldable pub outcomeNodes : Outcome → ℕ
 outcomeNodes (found n) = n
 outcomeNodes (none n) = n
 outcomeNodes (spent n) = n
+
+-- the answer that the number returned and the two results of a search stand for
+unfoldable pub searchAnswer : ℕ → ℕ → ℕ → SearchAnswer
+searchAnswer r outcome nodes = cond (eqb r 0) (cond (eqb outcome 1) (Found nodes) (cond (eqb outcome 2) (None nodes) (Spent nodes))) (Refused r)

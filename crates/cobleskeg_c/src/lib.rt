@@ -13,8 +13,8 @@ ghost use Rattle.model.specs.Replies.{leaves};
 ghost use Rattle.model.specs.Reading.{reading};
 ghost use Rattle.model.specs.Operations.{Header, read, unpack, Stepped, step, Settlement, settle, Searched, search};
 ghost use Rattle.model.specs.Claim.{calls};
-ghost use Rattle.cobleskeg.specs.Claims.{callOf, ListHolds};
-ghost use Rattle.cobleskeg_c.specs.Numbers.{refusal, writes, bitOf, outcomeNumber, outcomeNodes};
+ghost use Rattle.cobleskeg.specs.Claims.{callOf, SearchHolds, ListHolds};
+ghost use Rattle.cobleskeg_c.specs.Numbers.{refusal, writes, bitOf, outcomeNumber, outcomeNodes, searchAnswer};
 
 // Read: the five counts.
 #[no_mangle]
@@ -130,6 +130,8 @@ pub extern "C" fn cobleskeg_search(
     ensures { λ r. ⌜ now (nodes .exit)
         ≡ writes (λ (a : Searched). outcomeNodes (a .outcome)) (search (reading (now (file .entry))) budget (now (room .entry)) (now (table .entry)))
         (now (nodes .entry)) ⌝ }
+    ensures { λ r. ⌜ SearchHolds (now (file .entry)) budget (now (room .entry)) (now (table .entry))
+        (searchAnswer r (now (outcome .exit)) (now (nodes .exit))) (now (table .exit)) ⌝ }
 {
     match cobleskeg::search(file, budget, room, table) {
         SearchAnswer::Refused(n) => n,

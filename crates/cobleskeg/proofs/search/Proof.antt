@@ -1,6 +1,6 @@
 use native.Mathlib.Omega.{arith}
 use Rattle.cobleskeg.proofs.AnswerLaws.{fit}
-use Rattle.cobleskeg.proofs.SearchLaws.{search-early, search-twelve, search-thirteen, search-there, found-done, none-done, spent-done}
+use Rattle.cobleskeg.proofs.SearchEntryLaws.{search-early, search-twelve, search-thirteen, search-there, found-done, none-done, spent-done}
 use borrow.Author.Needs.{needs}
 use Rattle.cobleskeg.proofs.search.Statement.{statement}
 use Rattle.cobleskeg.proofs.search.Tie as tie
