@@ -1,6 +1,8 @@
-# What docs/PROMISES.md names is there: each declaration in its file, each must-fail edit, and no edit is left out.
+# What the documents say is so: what docs/PROMISES.md names is there, each declaration in its file and each must-fail edit, and no edit is left out; and what the
+# crates' comments quote stands in the papers.
 import re
 import sys
+import quotes
 from promises import ROOT, declarations, edits
 
 
@@ -17,11 +19,14 @@ def main():
     present = {(path.parent.parent.name, path.stem) for path in ROOT.glob("crates/*/must-fail/*.edit")}
     wrong += [f"crates/{crate}/must-fail/{label}.edit is not in docs/PROMISES.md with the fact it breaks" for crate, label in sorted(present - listed)]
     wrong += [f"docs/PROMISES.md names crates/{crate}/must-fail/{label}.edit, which is not there" for crate, label in sorted(listed - present)]
-    for line in wrong:
+    misquoted, said = quotes.check()
+    for line in wrong + misquoted:
         print("documents: " + line)
     if not wrong:
         print(f"documents: {len(declarations())} declarations and {len(listed)} must-fail edits of docs/PROMISES.md are there")
-    return 1 if wrong else 0
+    if not misquoted:
+        print("documents: " + said)
+    return 1 if wrong or misquoted else 0
 
 
 sys.exit(main())

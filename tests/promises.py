@@ -1,9 +1,14 @@
-# Reads docs/PROMISES.md: the declarations that it names, and the must-fail edits with the fact that each breaks.
+# Reads docs/PROMISES.md: the demands, the declarations that it names, and the must-fail edits with the fact that each breaks.
 import re
 from pathlib import Path
 
 ROOT = Path(__file__).resolve().parent.parent
 PROMISES = ROOT / "docs" / "PROMISES.md"
+
+
+def demands():
+    """The sentences of the three demands."""
+    return [line[2:] for line in PROMISES.read_text().splitlines() if line.startswith("> ")]
 
 
 def declarations():
