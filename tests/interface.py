@@ -16,6 +16,8 @@ ANSWER = TARGET / "answer"
 CARGO = TARGET / "cargo"
 HEADER = ROOT / "include" / "cobleskeg.h"
 DECLARATIONS = ROOT / "bindings" / "rust" / "src" / "entries.rs"
+SOURCE = ROOT / "crates" / "cobleskeg_c" / "src" / "lib.rt"
+C_TYPES = {"uint8_t": "u8", "uint32_t": "u32", "uint64_t": "u64", "size_t": "usize", "void": ""}
 MADE_BY = {ARCHIVE: "rt staticlib cobleskeg_c", PROGRAM: "rt check clash"}
 STATUS = {"found": 0, "none": 1, "spent": 2, "refused": 3}  # of the program `answer`, by its first word
 TROUBLE = 4
@@ -34,33 +36,57 @@ def run(command, folder=ROOT, errors=subprocess.STDOUT):
     return done.stdout
 
 
-def prototypes(text, pattern, types):
-    """From the name of each function that the pattern finds to the types of its arguments and its answer, as Rust writes them."""
+def prototypes(path, pattern, parameters):
+    """From the name of each function that the pattern finds in the file to its parameters, each a name and a type as Rust writes it, and its answer's type."""
     found = {}
-    for function in re.finditer(pattern, text):
-        arguments = [types(argument) for argument in function["arguments"].split(",") if argument.strip()]
-        found[function["name"]] = arguments, types(function["answer"] or "")
+    for function in re.finditer(pattern, path.read_text()):
+        texts = [text.strip() for text in function["parameters"].split(",") if text.strip() not in ("", "void")]
+        found[function["name"]] = sum(map(parameters, texts), []), C_TYPES.get(function["answer"], function["answer"] or "")
     return found
 
 
-def c_type(argument):
-    """`const uint8_t *file` is `*const u8`; the name is left out."""
-    word, pointer = re.search(r"uint8_t|uint32_t|uint64_t|size_t|void|$", argument)[0], "*" in argument
-    plain = {"uint8_t": "u8", "uint32_t": "u32", "uint64_t": "u64", "size_t": "usize", "void": ""}[word]
-    return (("*const " if "const " in argument else "*mut ") if pointer else "") + plain
+def fields(pattern, text):
+    match = re.fullmatch(pattern, text)
+    if not match:
+        raise Failure(f"no parameter that is known here: {text}")
+    return match.groups()
 
 
-def rust_type(argument):
-    return argument.split(":")[-1].replace("->", "").strip()
+def c_parameters(text):
+    """`const uint8_t *file` is `file: *const u8`."""
+    constant, word, pointer, name = fields(r"(const )?(uint8_t|uint32_t|uint64_t|size_t) (\*?)(\w+)", text)
+    return [(name, (("*const " if constant else "*mut ") if pointer else "") + C_TYPES[word])]
+
+
+def rust_parameters(text):
+    return [fields(r"(\w+): (.+)", text)]
+
+
+def rattle_parameters(text):
+    """A reference passes as a pointer, a slice as a pointer and a length, which has no name of its own."""
+    name, reference, array, word = fields(r"(\w+): (&mut |&|)(\[?)(\w+)\]?", text)
+    pointer = {"&mut ": "*mut ", "&": "*const ", "": ""}[reference]
+    return [(name, pointer + word)] + ([(None, "usize")] if array else [])
+
+
+def same_function(declared, other):
+    """Whether both have the same answer and parameters, by type and, where both have one, by name: five counts that change places have the same types."""
+    if not declared or not other or declared[1] != other[1] or len(declared[0]) != len(other[0]):
+        return False
+    return all(mine[1] == their[1] and their[0] in (None, mine[0]) for mine, their in zip(declared[0], other[0]))
 
 
 def declarations_agree():
-    """Nothing else holds the declarations of the Rust crate to the header."""
-    declared = prototypes(HEADER.read_text(), r"(?P<answer>uint8_t|void) (?P<name>cobleskeg_\w+)\((?P<arguments>[^)]*)\);", c_type)
-    repeated = prototypes(DECLARATIONS.read_text(), r"fn (?P<name>cobleskeg_\w+)\((?P<arguments>[^)]*)\)(?P<answer> -> u8)?;", rust_type)
-    if not declared or declared != repeated:
-        wrong = [name for name in sorted(declared.keys() | repeated.keys()) if declared.get(name) != repeated.get(name)]
-        raise Failure(f"{DECLARATIONS.relative_to(ROOT)} does not declare as the header: {', '.join(wrong)}")
+    """Nothing else holds the header to the functions that it declares, nor the Rust crate's declarations to the header."""
+    declared = prototypes(HEADER, r"\n(?P<answer>\w+) (?P<name>cobleskeg_\w+)\((?P<parameters>[^)]*)\);", c_parameters)
+    for path, pattern, parameters in [
+        (DECLARATIONS, r"pub fn (?P<name>cobleskeg_\w+)\((?P<parameters>[^)]*)\)(?: -> (?P<answer>\w+))?;", rust_parameters),
+        (SOURCE, r'#\[no_mangle\]\npub extern "C" fn (?P<name>\w+)\((?P<parameters>[^)]*)\)(?: -> (?P<answer>\w+))?\n', rattle_parameters),
+    ]:
+        other = prototypes(path, pattern, parameters)
+        wrong = [name for name in sorted(declared.keys() | other.keys()) if not same_function(declared.get(name), other.get(name))]
+        if wrong or not declared:
+            raise Failure(f"{path.relative_to(ROOT)} does not declare as the header: {', '.join(wrong)}")
 
 
 def c_programs():
