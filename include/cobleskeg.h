@@ -38,6 +38,12 @@
 extern "C" {
 #endif
 
+/* The version of this header; CHANGELOG.md says what each part of it promises. */
+#define COBLESKEG_VERSION_MAJOR 0
+#define COBLESKEG_VERSION_MINOR 1
+#define COBLESKEG_VERSION_PATCH 0
+#define COBLESKEG_VERSION (10000 * COBLESKEG_VERSION_MAJOR + 100 * COBLESKEG_VERSION_MINOR + COBLESKEG_VERSION_PATCH)
+
 /* The outcomes of a search. */
 #define COBLESKEG_FOUND 1
 #define COBLESKEG_NONE 2
@@ -49,6 +55,9 @@ extern "C" {
 /* The largest problem file, in bytes, and the largest table, in words. */
 #define COBLESKEG_LARGEST_FILE 25024
 #define COBLESKEG_LARGEST_TABLE 1040
+
+/* The version of the archive that is linked. Where it is not COBLESKEG_VERSION, the program was compiled with another archive's header. */
+uint32_t cobleskeg_version(void);
 
 /* Read: the counts of a problem file.
  * Refuses 1 to 8. Accepted, it writes all five counts. */

@@ -204,6 +204,7 @@ static void refused_buffers(void)
 
 int main(void)
 {
+    check(cobleskeg_version() == COBLESKEG_VERSION, "the archive has the header's version", 0);
     p14_file();
     accepted();
     searched();

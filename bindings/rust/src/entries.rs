@@ -1,6 +1,7 @@
 //! The entries as include/cobleskeg.h declares them.
 
 extern "C" {
+    pub fn cobleskeg_version() -> u32;
     pub fn cobleskeg_read(
         file: *const u8,
         size: usize,

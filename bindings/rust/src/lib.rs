@@ -80,6 +80,11 @@ pub enum Outcome {
 // A slice's pointer is never null and always aligned, also where the slice is empty, and a slice that may be written is no part of another: with that, each
 // call below meets all that the header asks of a caller.
 
+/// The version of the archive that is linked: 10000 times the major part, 100 times the minor one, and the patch. It is this crate's version too.
+pub fn version() -> u32 {
+    unsafe { entries::cobleskeg_version() }
+}
+
 /// The counts of a problem file.
 ///
 /// Refuses 1 to 8.

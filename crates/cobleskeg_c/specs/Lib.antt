@@ -1,2 +1,3 @@
 -- The definitions that the contracts of the C interface cite.
 pub mod Numbers
+pub mod Version

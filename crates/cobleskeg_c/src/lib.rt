@@ -15,6 +15,17 @@ ghost use Rattle.model.specs.Operations.{Header, read, unpack, Stepped, step, S
 ghost use Rattle.model.specs.Claim.{calls};
 ghost use Rattle.cobleskeg.specs.Claims.{callOf, SearchHolds, ListHolds};
 ghost use Rattle.cobleskeg_c.specs.Numbers.{refusal, writes, bitOf, outcomeNumber, outcomeNodes, searchAnswer};
+ghost use Rattle.cobleskeg_c.specs.Version.{version};
+
+// The version of what is linked.
+const VERSION: u32 = 100;
+
+#[no_mangle]
+pub extern "C" fn cobleskeg_version() -> u32
+    ensures { λ r. ⌜ r ≡ version ⌝ }
+{
+    VERSION
+}
 
 // Read: the five counts.
 #[no_mangle]
