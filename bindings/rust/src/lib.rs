@@ -14,15 +14,23 @@
 //! # Ok::<(), Box<dyn std::error::Error>>(())
 //! ```
 //!
+//! A [`Builder`] makes such a file of domains and constraints, and takes nothing that the library would refuse.
+//!
 //! The other functions are the library's own entries, each on buffers that the caller lends; none allocates.
 //!
 //! A *table* has 64 s + t words for s strings and t numbers. A string's row is 64 words: bit l of word 0 allows the length l, bit a of word i (1 to 63) allows
 //! the symbol a at place i. A number has one word: bit v allows the value v. A [`Refusal`] leaves every buffer as it was.
 
+mod build_error;
+mod builder;
+mod domains;
 mod entries;
 mod refusal;
 mod solve;
 
+pub use build_error::BuildError;
+pub use builder::{AutomatonHandle, Builder, NumberHandle, StringHandle};
+pub use domains::{Row, Values};
 pub use refusal::Refusal;
 pub use solve::{solve, Answer};
 
