@@ -8,6 +8,8 @@ import subprocess
 import sys
 from pathlib import Path
 
+import format_example
+
 ROOT = Path(__file__).resolve().parent.parent
 TARGET = ROOT / "target"
 ARCHIVE = TARGET / "staticlib" / "libcobleskeg_c.a"
@@ -165,6 +167,7 @@ def main():
         tests = rust_tests()
         count = examples()
         calls_of_answer()
+        expect("answer on the example of docs/FORMAT.md", printed(ANSWER, given=format_example.listed()[0]), (format_example.answer(), STATUS["found"]))
         compare = [CARGO / "release" / "compare", "--cases", given.cases, "--seed", given.seed, "--program", PROGRAM]
         print(run(compare, errors=None).strip(), flush=True)  # how far it is shows at once
     except (Failure, OSError) as failure:

@@ -46,6 +46,30 @@ fn positions_find_the_answer() -> Built<()> {
     Ok(())
 }
 
+/// The example of docs/FORMAT.md, built by the calls that it gives; its bytes here are made of the words by hand.
+#[test]
+fn the_example_of_the_format() -> Built<()> {
+    let mut problem = Builder::new(2)?;
+    let (zero, any) = (Values::of([0])?, Values::of([0, 1])?);
+    let x = problem.string(Row::new(Values::of([1, 2])?, any).at(1, zero)?)?;
+    let y = problem.string(Row::new(Values::of(0..=2)?, any))?;
+    let n = problem.number(Values::of(0..=3)?)?;
+    let zeros = problem.automaton(Values::of([0])?, &[[1, 0], [0, 1]])?;
+    problem.rev(x, y)?;
+    problem.len(y, n)?;
+    problem.regular(x, zeros)?;
+    let file = problem.file();
+    let mut words = [0u64; 129];
+    words[..3].copy_from_slice(&[0b110, 0b1, 0b11]);
+    words[64..67].copy_from_slice(&[0b111, 0b11, 0b11]);
+    words[128] = 0b1111;
+    let table: Vec<u8> = words.iter().flat_map(|word| word.to_le_bytes()).collect();
+    assert_eq!(file[..1032], table);
+    assert_eq!(file[1032..1053], [3, 0, 1, 0, 6, 1, 0, 0, 7, 0, 0, 0, 2, 1, 0, 0, 0, 1, 0, 0, 1]);
+    assert_eq!(file[1053..], [&[2, 2, 1, 1, 3, 0, 0, 0, 0x1d, 4, 0, 0, 21, 0, 0, 0, 9, 0, 0, 0][..], b"TAIL"].concat());
+    Ok(())
+}
+
 #[test]
 fn nothing_but_an_alphabet() -> Built<()> {
     assert_eq!(Builder::new(2)?.file(), bare());
