@@ -6,143 +6,6 @@ use libc::STDIN_FILENO;
 use libc::STDOUT_FILENO;
 ghost use Rattle.automata.specs.Machine.{Whole};
 
-// Two states over 64 symbols: symbol 0 changes the state, any other keeps it, and state 0 accepts.
-const PARITY: [u8; 133] = [
-    2,
-    1,
-    0,
-    0,
-    0,
-    1,
-    0,
-    0,
-    0,
-    0,
-    0,
-    0,
-    0,
-    0,
-    0,
-    0,
-    0,
-    0,
-    0,
-    0,
-    0,
-    0,
-    0,
-    0,
-    0,
-    0,
-    0,
-    0,
-    0,
-    0,
-    0,
-    0,
-    0,
-    0,
-    0,
-    0,
-    0,
-    0,
-    0,
-    0,
-    0,
-    0,
-    0,
-    0,
-    0,
-    0,
-    0,
-    0,
-    0,
-    0,
-    0,
-    0,
-    0,
-    0,
-    0,
-    0,
-    0,
-    0,
-    0,
-    0,
-    0,
-    0,
-    0,
-    0,
-    0,
-    0,
-    0,
-    0,
-    0,
-    0,
-    1,
-    1,
-    1,
-    1,
-    1,
-    1,
-    1,
-    1,
-    1,
-    1,
-    1,
-    1,
-    1,
-    1,
-    1,
-    1,
-    1,
-    1,
-    1,
-    1,
-    1,
-    1,
-    1,
-    1,
-    1,
-    1,
-    1,
-    1,
-    1,
-    1,
-    1,
-    1,
-    1,
-    1,
-    1,
-    1,
-    1,
-    1,
-    1,
-    1,
-    1,
-    1,
-    1,
-    1,
-    1,
-    1,
-    1,
-    1,
-    1,
-    1,
-    1,
-    1,
-    1,
-    1,
-    1,
-    1,
-    1,
-    1,
-    1,
-    1,
-    1,
-    1,
-    1,
-];
-
 // The domains of three strings and a number.
 struct Domains {
     x: [u64; 64],
@@ -189,15 +52,31 @@ fn start(domains: u8) -> Domains {
     typical()
 }
 
+// An automaton of two states over 64 symbols: symbol 0 changes the state, any other keeps it, and state 0 accepts.
 fn parity() -> [u8; 133]
     ensures { λ r. ⌜ Whole 64 r ⌝ }
 {
-    PARITY
+    let mut d = [0u8; 133];
+    d[0] = 2;
+    d[1] = 1;
+    d[5] = 1;
+    let mut i: usize = 0;
+    while i < 63 {
+        d[i + 70] = 1;
+        i += 1;
+    }
+    d
 }
 
-fn regular_step(x: [u64; 64]) -> [u64; 64] {
-    let d = parity();
-    regular::narrow(&d, 64, x)
+fn regular_step(d: &[u8], x: [u64; 64]) -> [u64; 64]
+    requires { ⌜ Whole 64 (now d) ⌝ }
+{
+    regular::narrow(d, 64, x)
+}
+
+fn trim_step(x: [u64; 64], y: [u64; 64], z: [u64; 64], n: u64) -> Domains {
+    let rx = rows::trim(x);
+    Domains { x: rx, y, z, n }
 }
 
 fn eq_step(x: [u64; 64], y: [u64; 64], z: [u64; 64], n: u64) -> Domains {
@@ -259,16 +138,16 @@ fn len_step(x: [u64; 64], y: [u64; 64], z: [u64; 64], n: u64) -> Domains {
     }
 }
 
-fn step(kind: u8, s: Domains) -> Domains {
+// The automaton is handed in, so that making it is no part of a step.
+fn step(kind: u8, d: &[u8], s: Domains) -> Domains
+    requires { ⌜ Whole 64 (now d) ⌝ }
+{
     let x = s.x;
     let y = s.y;
     let z = s.z;
     let n = s.n;
     match kind {
-        0 => {
-            let t = rows::trim(x);
-            Domains { x: t, y, z, n }
-        }
+        0 => trim_step(x, y, z, n),
         1 => eq_step(x, y, z, n),
         2 => neq_step(x, y, z, n),
         3 => rev_step(x, y, z, n),
@@ -276,7 +155,7 @@ fn step(kind: u8, s: Domains) -> Domains {
         5 => sub_step(x, y, z, n),
         6 => len_step(x, y, z, n),
         7 => {
-            let t = regular_step(x);
+            let t = regular_step(d, x);
             Domains { x: t, y, z, n }
         }
         _ => s,
@@ -296,10 +175,11 @@ fn bits(r: [u64; 64]) -> u64 {
 
 // How many bits are left after so many steps.
 fn left(kind: u8, domains: u8, times: u8) -> u64 {
+    let d = parity();
     let mut s = start(domains);
     let mut i: u8 = 0;
     while i < times {
-        s = step(kind, s);
+        s = step(kind, &d, s);
         i += 1;
     }
     let x = s.x;

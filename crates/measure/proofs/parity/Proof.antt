@@ -1,23 +1,55 @@
--- The bytes are a whole automaton: its count, its accepting states, and a test of all its moves, computed once. Assumes nothing.
-use mathlib.Core.Path.{_≡_, refl, sym, subst, _∙_}
+-- The bytes are a whole automaton before the loop, by a test of all its moves that is computed once, and stay one when a move is put anew. Assumes nothing.
+use mathlib.Core.Path.{_≡_, refl, sym, subst, ap, ap₂, _∙_}
 use mathlib.Core.Bool.{true}
-use mathlib.Core.List.{List, [], _∷_, _++_}
-use Prim.Native.Nat.{ℕ, _+_, _<_}
+use mathlib.Core.List.{List, [], _∷_}
+use Prim.Native.Nat.{ℕ, zero, suc, _+_, _-_, _*_, _≤_, _<_}
 use native.Mathlib.Omega.{arith}
 use lib.Dec.{ltb}
-use lib.ListN.{length, getD, drop, replicate}
-use lib.Seq.{getD-drop}
+use lib.ListN.{length, getD, set, take, drop, replicate, length-set}
+use lib.Seq.{getD-drop, getD-set-other, take-set-le, drop-set-add}
+use borrow.Author.Needs.{needs}
 use borrow.Author.Tests.{ltb-true}
 use Rattle.model.specs.Lists.{select, all, from, upto}
 use Rattle.model.specs.Words.{bit, bits, noneFrom}
 use Rattle.model.specs.Layout.{little, part}
 use Rattle.laws.proofs.ListLaws.{of-all, getD-in}
-use Rattle.automata.specs.Machine.{Whole}
+use Rattle.automata.specs.Machine.{Whole, stateCount}
 use Rattle.measure.proofs.parity.Statement.{statement}
 use Rattle.measure.proofs.parity.Tie as tie
+use Rattle.measure.proofs.parity.Reads as reads
+use Rattle.measure.proofs.parity.Lts as lts
+
+-- ---- a move put anew
+
+getD-set-below : (l : List ℕ) (i j v b : ℕ) → v < b → getD l j 0 < b → getD (set l i v) j 0 < b
+getD-set-below [] i j v b h k = k
+getD-set-below (x ∷ xs) zero zero v b h k = h
+getD-set-below (x ∷ xs) zero (suc j) v b h k = k
+getD-set-below (x ∷ xs) (suc i) zero v b h k = k
+getD-set-below (x ∷ xs) (suc i) (suc j) v b h k = getD-set-below xs i j v b h k
+
+module _ (k : ℕ) (bs : List ℕ) (i v : ℕ) (behind : 4 ≤ i) where
+  count-set : stateCount (set bs (1 + i) v) ≡ stateCount bs
+  count-set = getD-set-other bs (1 + i) 0 v 0 (omega arith)
+
+  accepting-set : part 1 4 (set bs (1 + i) v) ≡ part 1 4 bs
+  accepting-set = ap (take 4) (drop-set-add 1 bs i v) ∙ take-set-le 4 (drop 1 bs) i v behind
+
+  move-whole : v < stateCount bs → Whole k bs → Whole k (set bs (1 + i) v)
+  move-whole h w = record {
+    some-state = let e = count-set in let p = w .some-state in omega arith;
+    most-states = let e = count-set in let p = w .most-states in omega arith;
+    long = let e = ap (λ (q : ℕ). q * k) count-set in let l = length-set bs (1 + i) v in let p = w .long in omega arith;
+    accepting-known = ap₂ (λ (q : ℕ) (l : List ℕ). noneFrom q (little l)) count-set accepting-set ∙ w .accepting-known;
+    moves-known = λ j l.
+        subst (λ (q : ℕ). getD (set bs (1 + i) v) (5 + j) 0 < q) (sym count-set)
+        (getD-set-below bs (1 + i) (5 + j) v (stateCount bs) h (w .moves-known j (subst (λ (q : ℕ). j < q * k) count-set l)));
+  }
+
+-- ---- before the loop
 
 moves : List ℕ
-moves = 1 ∷ replicate 63 0 ++ (0 ∷ replicate 63 1)
+moves = 1 ∷ replicate 127 0
 
 moves-low : all (λ p. ltb p 2) moves ≡ true
 unfolding moves all
@@ -46,9 +78,76 @@ bytes-whole = record {
       subst (λ (p : ℕ). p < 2) (getD-drop 5 bytes j 0) (ltb-true (getD moves j 0) 2 (of-all (λ p. ltb p 2) moves-low (getD-in moves j 0 (omega arith))));
 }
 
-returns : tie.Need-returns
+-- two states, and a whole automaton over 64 symbols
+record Made (bs : List ℕ) : Type 0 where
+  two : stateCount bs ≡ 2
+  whole : Whole 64 bs
+
+bytes-made : Made bytes
+unfolding bytes
+bytes-made = record { two = refl; whole = bytes-whole }
+
+move-made : (bs : List ℕ) (i : ℕ) → Made bs → Made (set bs (i + 70) 1)
+move-made bs i m =
+    let e : 1 + (i + 69) ≡ i + 70 = omega arith in
+    subst (λ (j : ℕ). Made (set bs j 1)) e
+    (record {
+      two = count-set 64 bs (i + 69) 1 (omega arith) ∙ m .two;
+      whole = let t = m .two in move-whole 64 bs (i + 69) 1 (omega arith) (omega arith) (m .whole);
+    })
+
+-- ---- the function
+
+abbrev Inv-loop : tie.InvT-loop
+Inv-loop d₀ i₀ d i = (i ≤ 63) × Made d
+
+abbrev μ-loop : tie.MeasureT-loop
+μ-loop d₀ i₀ d i = 63 - i
+
+array-write-d : tie.Need-array-write-d Inv-loop μ-loop
+array-write-d c = search needs
+
+array-write-d-2 : tie.Need-array-write-d-2 Inv-loop μ-loop
+array-write-d-2 c = search needs
+
+array-write-d-3 : tie.Need-array-write-d-3 Inv-loop μ-loop
+array-write-d-3 c = search needs
+
+loop-holds : tie.Need-loop-holds Inv-loop μ-loop
 unfolding bytes moves
-returns c = bytes-whole
+loop-holds c = (search needs, bytes-made)
+
+add-d : tie.Need-add-d Inv-loop μ-loop
+add-d c = search needs
+
+array-write-d-4 : tie.Need-array-write-d-4 Inv-loop μ-loop
+array-write-d-4 c = search needs
+
+add-i : tie.Need-add-i Inv-loop μ-loop
+add-i c = search needs
+
+loop-less : tie.Need-loop-less Inv-loop μ-loop
+loop-less c = search needs
+
+loop-again : tie.Need-loop-again Inv-loop μ-loop
+loop-again c = (search needs, move-made _ _ (c .before .loop .inv .1))
+
+returns : tie.Need-returns Inv-loop μ-loop
+returns c = c .before .loop .inv .1 .whole
 
 pub parity-spec : {M : Type 1} → statement M
-parity-spec = tie.close (tie.spec returns)
+parity-spec =
+    tie.close
+    (tie.spec
+    Inv-loop
+    μ-loop
+    array-write-d
+    array-write-d-2
+    array-write-d-3
+    loop-holds
+    add-d
+    array-write-d-4
+    add-i
+    loop-less
+    loop-again
+    returns)
