@@ -214,6 +214,18 @@ def deepest():
     return p
 
 
+def rules():
+    """16 strings of up to 63 symbols out of 64, each held to four of 8 automata of 32 states: bench/stack.py's, as Regular takes most of the stack."""
+    p = Problem([chr(i) for i in range(64)])
+    strings = [p.string(range(LIMIT)) for _ in range(16)]
+    for r in range(8):
+        # Symbol a takes the state times 5 plus a * r plus 1, modulo 32; one state accepts.
+        p.machine(32, [(5 * state + a * r + 1) % 32 for state in range(32) for a in range(64)], [r])
+    for i in range(64):
+        p.regular(strings[i % 16], (i + i // 16) % 8)
+    return p
+
+
 # (name, what it is, the problem)
 PROBLEMS = [
     ("clash", "two templates that clash", clash()),

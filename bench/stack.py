@@ -1,63 +1,34 @@
-# Measures how deep the stack goes below a call of Search, on the problems of bench/problems.py. Run after `rt check nodes`; needs gdb.
-# At the program's second search the stack below the call is painted (the first one made the kernel lend its pages), and after it the lowest byte that lost its
-# paint is looked for. gdb runs this same file, with the case in STACK_CASE.
-import os
+# Measures how deep the stack goes below a call of each entry that narrows, through the archive that programs link, on the problems of bench/problems.py.
+# Run from the repository's root after `rt staticlib cobleskeg_c`; needs a C compiler for x86-64. bench/stack.c makes the calls.
 import subprocess
 import sys
-import tempfile
 from pathlib import Path
 
-PROGRAM = Path(__file__).resolve().parent.parent / "target" / "bin" / "nodes"
-ENTRY = "cobleskeg::search"
-PAINT = 0xA5
+from problems import PROBLEMS, rules
+
+ROOT = Path(__file__).resolve().parent.parent
+ARCHIVE = ROOT / "target" / "staticlib" / "libcobleskeg_c.a"
+PROGRAM = ROOT / "target" / "stack"
+CALLS = [("search", 1), ("search", 1000), ("settle", 0), ("step", 0), ("perform", 0)]  # the entry, and the budget of a search
 
 
-def measure(gdb):
-    """Inside gdb: prints the bytes that one search used, its return address included."""
-    gdb.execute("set pagination off")
-    gdb.execute("set confirm off")
-    gdb.Breakpoint(f"*'{ENTRY}'")
-    gdb.execute(f"run < {os.environ['STACK_CASE']} > /dev/null")
-    gdb.execute("continue")
-    top = int(gdb.parse_and_eval("(unsigned long)$rsp"))
-    program = gdb.selected_inferior()
-    with open(f"/proc/{program.pid}/maps") as maps:
-        low = next(int(line.split("-")[0], 16) for line in maps if "[stack]" in line)
-    back = int(gdb.parse_and_eval("*(unsigned long *)$rsp"))
-    program.write_memory(low, bytes([PAINT]) * (top - low))
-    gdb.Breakpoint(f"*{back}", temporary=True)
-    gdb.execute("continue")
-    left = bytes(program.read_memory(low, top - low))
-    print("used", top - low - (len(left) - len(left.lstrip(bytes([PAINT])))) + 8)
-    gdb.execute("kill")
+def used(content, entry, budget):
+    """The bytes below the caller."""
+    return int(subprocess.run([PROGRAM, entry, str(budget)], input=content, capture_output=True, check=True).stdout)
 
 
 def main():
-    from problems import PROBLEMS
-    from search import answer, case
-
-    if not PROGRAM.is_file():
-        print("bench: target/bin/nodes is not there: run `rt check nodes` first")
+    if not ARCHIVE.is_file():
+        print("bench: target/staticlib/libcobleskeg_c.a is not there: run `rt staticlib cobleskeg_c` first")
         return 1
-    print("| problem | nodes | bytes of stack below the call |")
-    print("|---|---|---|")
-    for _, what, problem in PROBLEMS:
-        for budget in (1, 1000):
-            content = problem.file()
-            with tempfile.NamedTemporaryFile() as given:
-                given.write(case(content, 1, budget))
-                given.flush()
-                command = ["gdb", "-q", "-batch", "-x", __file__, str(PROGRAM)]
-                done = subprocess.run(command, capture_output=True, text=True, env=dict(os.environ, STACK_CASE=given.name))
-            used = [int(line.split()[1]) for line in done.stdout.splitlines() if line.startswith("used ")]
-            print(f"| {what} | {answer(content, budget)[1]:,} | {used[0]:,} |", flush=True)
+    options = ["-std=gnu11", "-O2", "-Wall", "-Wextra", "-Werror", f"-I{ROOT / 'include'}", "-pthread"]
+    subprocess.run(["cc", *options, ROOT / "bench" / "stack.c", ARCHIVE, "-o", PROGRAM], check=True)
+    print("| problem | Search, one node | Search, up to 1,000 | Settle | each Step | Perform |")
+    print("|---|---|---|---|---|---|")
+    for what, problem in [(what, problem) for _, what, problem in PROBLEMS] + [("64 rules of 32 states on 16 strings", rules())]:
+        content = problem.file()
+        print(f"| {what} | {' | '.join(f'{used(content, *call):,}' for call in CALLS)} |", flush=True)
     return 0
 
 
-if "STACK_CASE" in os.environ:
-    import gdb
-
-    measure(gdb)
-else:
-    sys.path.insert(0, str(Path(__file__).resolve().parent))
-    sys.exit(main())
+sys.exit(main())
