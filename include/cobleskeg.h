@@ -27,6 +27,10 @@
  * What the caller sees to, and no entry can test: a pointer is not null (also where the count beside it is 0) and is aligned for its type, the memory behind
  * it has as many elements as the count says, and no memory that an entry writes overlaps other memory that it is given. Given that, every call ends and
  * touches nothing else; no entry keeps a pointer, allocates, or has state of its own, so calls on separate buffers may run at once.
+ *
+ * Stack. Search goes deepest: 148,024 bytes below its caller, measured on problems at every limit (bench/stack.py); one Regular constraint on a string of 63
+ * symbols is enough for that, and Settle, Step and Perform then take hardly less. A thread that calls them should have COBLESKEG_STACK bytes of stack, or more
+ * where the caller itself needs much. A thread of 148 KiB, in which the system has its share, was seen to crash.
  */
 #ifndef COBLESKEG_H
 #define COBLESKEG_H
@@ -55,6 +59,9 @@ extern "C" {
 /* The largest problem file, in bytes, and the largest table, in words. */
 #define COBLESKEG_LARGEST_FILE 25024
 #define COBLESKEG_LARGEST_TABLE 1040
+
+/* The stack of a thread that calls the entries, in bytes: what they were measured to take, and a third more. */
+#define COBLESKEG_STACK 196608
 
 /* The version of the archive that is linked. Where it is not COBLESKEG_VERSION, the program was compiled with another archive's header. */
 uint32_t cobleskeg_version(void);

@@ -91,6 +91,15 @@ def declarations_agree():
             raise Failure(f"{path.relative_to(ROOT)} does not declare as the header: {', '.join(wrong)}")
 
 
+def constants_agree():
+    """Each number that the Rust crate makes public is the header's."""
+    named = dict(re.findall(r"^#define COBLESKEG_(\w+) (?:UINT32_C\()?(\d+)\)?$", HEADER.read_text(), re.MULTILINE))
+    repeated = re.findall(r"^pub const (\w+): \w+ = ([\w:]+);$", (DECLARATIONS.parent / "lib.rs").read_text(), re.MULTILINE)
+    wrong = [name for name, value in repeated if value.replace("_", "").replace("u32::MAX", str(2**32 - 1)) != named.get(name)]
+    if wrong or not repeated:
+        raise Failure(f"the Rust crate has other numbers than the header: {', '.join(wrong)}")
+
+
 def c_programs():
     """Builds both C programs and runs the one that calls every entry; answers its line."""
     run(["g++", "-fsyntax-only", "-Wall", "-Wextra", "-Werror", "-x", "c++", HEADER])
@@ -163,6 +172,7 @@ def main():
         if missing:
             raise Failure("\n".join(missing))
         declarations_agree()
+        constants_agree()
         checks = c_programs()
         tests = rust_tests()
         count = examples()

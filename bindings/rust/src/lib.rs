@@ -43,6 +43,10 @@ pub const LARGEST_FILE: usize = 25_024;
 /// The words of the largest table.
 pub const LARGEST_TABLE: usize = 1_040;
 
+/// The bytes of stack that a thread should have which calls [`search`], [`solve`], [`settle`], [`step`] or [`perform`]: what they were measured to take, and a
+/// third more. Rust's own threads have more, where nothing else is said.
+pub const STACK: usize = 196_608;
+
 /// The counts of a problem file.
 #[derive(Clone, Copy, Debug, Default, PartialEq, Eq)]
 pub struct Counts {
