@@ -3,15 +3,16 @@
 // Assumes nothing, and requires nothing of its rows.
 ghost use mathlib.Core.Path.{_≡_};
 ghost use mathlib.Core.Bool.{not};
-ghost use mathlib.Core.List.{[], _++_};
-ghost use Prim.Native.Nat.{_<_, _≤_};
+ghost use mathlib.Core.List.{List, [], _++_};
+ghost use Prim.Native.Nat.{ℕ, _<_, _≤_};
+ghost use lib.ListN.{length};
 ghost use Rattle.model.specs.Lists.{any};
-ghost use Rattle.model.specs.Words.{several};
+ghost use Rattle.model.specs.Words.{several, Words};
 ghost use Rattle.model.specs.Constraints.{neq};
 ghost use Rattle.model.specs.Solutions.{textBit};
 ghost use Rattle.model.specs.Support.{narrowed};
 ghost use Rattle.laws.specs.Supported.{Supports};
-ghost use Rattle.rows.specs.Rows.{alone};
+ghost use Rattle.rows.specs.Rows.{alone, trimmed};
 ghost use Rattle.neq.specs.Others.{Against, differingAt, otherThan};
 
 // Whether no word has two bits: a trimmed row that has a string stands for that one alone.
@@ -54,26 +55,27 @@ fn other_than(x: [u64; 64], v: [u64; 64], n: usize) -> [u64; 64]
     r
 }
 
-// What Neq leaves of x against y.
-fn side(x: [u64; 64], y: [u64; 64]) -> [u64; 64]
-    ensures { λ r. ⌜ Supports (Against x y) textBit 64 r ⌝ }
+// What Neq leaves of x against another row y; both come trimmed too, as u and v.
+fn side(x: [u64; 64], u: [u64; 64], v: [u64; 64]) -> [u64; 64]
+    ensures { λ r. ⌜ ((y : List ℕ) → length y ≡ 64 → Words y → u ≡ trimmed x → v ≡ trimmed y → Supports (Against x y) textBit 64 r) ⌝ }
 {
-    let v = rows::trim(y);
     if v[0] == 0 {
         return [0u64; 64];
     }
     if one_string(v) {
         return other_than(x, v, words::highest(v[0]) + 1);
     }
-    rows::trim(x)
+    u
 }
 
 // One narrowing step: each side loses something beyond trimming only when the other stands for one string or for none.
 pub fn narrow(x: [u64; 64], y: [u64; 64]) -> rows::Pair
     ensures { λ r. ⌜ r .x ++ r .y ≡ narrowed (alone 2 0 []) (neq 0 1) (x ++ y) ⌝ }
 {
+    let u = rows::trim(x);
+    let v = rows::trim(y);
     rows::Pair {
-        x: side(x, y),
-        y: side(y, x),
+        x: side(x, u, v),
+        y: side(y, v, u),
     }
 }
