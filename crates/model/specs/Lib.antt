@@ -13,6 +13,7 @@ pub mod Replies
 pub mod Layout
 pub mod Reading
 pub mod Operations
+pub mod Listing
 pub mod Claim
 pub mod Cases
 pub mod Examples
