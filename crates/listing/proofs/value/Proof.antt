@@ -1,0 +1,18 @@
+use lib.Count.{trailing-le}
+use Rattle.listing.specs.Tables.{value}
+use native.Mathlib.Omega.{arith}
+use borrow.Author.Needs.{needs}
+use Rattle.listing.proofs.value.Statement.{statement}
+use Rattle.listing.proofs.value.Tie as tie
+use Rattle.listing.proofs.value.Reads as reads
+use Rattle.listing.proofs.value.Lts as lts
+
+cast-result : tie.Need-cast-result
+cast-result c = omega (arith, trailing-le 64 (c .args .domain))
+
+returns : tie.Need-returns
+unfolding value
+returns c = search needs
+
+pub value-spec : {M : Type 1} → statement M
+value-spec = tie.close (tie.spec cast-result returns)

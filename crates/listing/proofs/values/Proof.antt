@@ -1,0 +1,80 @@
+use Prim.Native.Nat.{_-_, _≤_}
+use mathlib.Core.List.{flatMap}
+use lib.ListN.{length, take}
+use native.Mathlib.Omega.{arith}
+use Rattle.listing.proofs.LineLaws.{each-start, each-room, each-step, each-end}
+use Rattle.listing.proofs.WritingLaws.{wrote-length}
+use Rattle.laws.proofs.ListLaws.{flatMap-map}
+use Rattle.model.specs.Listing.{field}
+use Rattle.listing.specs.Writing.{Wrote}
+use Rattle.listing.specs.Tables.{value}
+use borrow.Author.Needs.{needs}
+use Rattle.listing.proofs.values.Statement.{statement}
+use Rattle.listing.proofs.values.Tie as tie
+use Rattle.listing.proofs.values.Reads as reads
+use Rattle.listing.proofs.values.Lts as lts
+use Rattle.listing.proofs.marked.Reads as marked-reads
+use Rattle.listing.proofs.value.Reads as value-reads
+
+abbrev Inv-loop : tie.InvT-loop
+Inv-loop domains lines₀ at end₀ i₀ i-end lines end i = (i ≤ length domains) × Wrote lines₀ at (flatMap (λ w. field (value w)) (take i domains)) lines end
+
+abbrev μ-loop : tie.MeasureT-loop
+μ-loop domains lines₀ at end₀ i₀ i-end lines end i = length domains - i
+
+loop-holds : tie.Need-loop-holds Inv-loop μ-loop
+loop-holds c = (search needs, each-start (λ w. field (value w)) (c .before .before .args .domains .now))
+
+mul-value : tie.Need-mul-value Inv-loop μ-loop
+mul-value c = search needs
+
+shared-slice-read-value : tie.Need-shared-slice-read-value Inv-loop μ-loop
+shared-slice-read-value c = search needs
+
+value-requires : tie.Need-value-requires Inv-loop μ-loop
+value-requires c κs = search needs
+
+marked-requires : tie.Need-marked-requires Inv-loop μ-loop
+unfolding field
+marked-requires c κs =
+    let s = c .before .before .before .before .before .before .before in
+    let k = c .before .before .before .before .loop in
+    rw (c .before .value .ensures) (each-room (λ w. field (value w)) (s .args .domains .now) (k .i) (omega arith) (k .inv .1) (rw (flatMap-map field value (s .args .domains .now)) at (s .pre)))
+
+add-i : tie.Need-add-i Inv-loop μ-loop
+add-i c = search needs
+
+loop-less : tie.Need-loop-less Inv-loop μ-loop
+loop-less c = search needs
+
+loop-again : tie.Need-loop-again Inv-loop μ-loop
+unfolding field
+loop-again c =
+    let s = c .before .before .before .before .before .before .before .before .before .before in
+    let k = c .before .before .before .before .before .before .before .loop in
+    (search needs, each-step (λ w. field (value w)) (s .args .domains .now) (k .i) (omega arith) (k .inv .1) (rw (c .before .before .before .before .value .ensures) at (c .before .before .marked .ensures)))
+
+same-length : tie.Need-same-length Inv-loop μ-loop
+same-length c = wrote-length (c .before .loop .inv .1)
+
+returns : tie.Need-returns Inv-loop μ-loop
+returns c =
+    let s = c .before .before .before .before in
+    rw (flatMap-map field value (s .args .domains .now)) (each-end (λ w. field (value w)) (s .args .domains .now) (c .before .loop .i) (omega arith) (c .before .loop .inv .1))
+
+pub values-spec : {M : Type 1} → statement M
+values-spec =
+    tie.close
+    (tie.spec
+    Inv-loop
+    μ-loop
+    loop-holds
+    mul-value
+    shared-slice-read-value
+    value-requires
+    marked-requires
+    add-i
+    loop-less
+    loop-again
+    same-length
+    returns)
