@@ -1,2 +1,0 @@
--- The laws of the program: what Read answers fits the table that is lent.
-pub mod CountLaws
