@@ -8,12 +8,13 @@ use lib.ListN.{length, length-append}
 use Rattle.model.specs.Lists.{upto}
 use Rattle.model.specs.Constraints.{Choice, Problem}
 use Rattle.model.specs.Solutions.{Fits}
-use Rattle.laws.proofs.ListLaws.{In, of-upto, in-getD}
+use Rattle.laws.specs.Inclusion.{In}
+use Rattle.laws.proofs.ListLaws.{of-upto, in-getD}
 use Rattle.laws.proofs.RowLaws.{Short}
 use Rattle.model.specs.Listing.{decimal, field, line, stringLine, numberLine}
 use Rattle.listing.proofs.NumeralLaws.{decimal-length}
 use Rattle.listing.proofs.LineLaws.{upto-length}
-use Rattle.listing.proofs.SolutionLaws.{text-short, value-short, choiceLines}
+use Rattle.listing.proofs.FoundLaws.{text-short, value-short, choiceLines}
 
 flatMap-most : (f : ℕ → List ℕ) (most : ℕ) (xs : List ℕ) → ((x : ℕ) → In x xs → length (f x) ≤ most) → length (flatMap f xs) ≤ length xs * most
 unfolding flatMap

@@ -3,7 +3,7 @@ pub mod WritingLaws
 pub mod NumeralLaws
 pub mod LineLaws
 pub mod TableLinesLaws
-pub mod SolutionLaws
+pub mod FoundLaws
 pub mod LengthLaws
 pub mod SearchedLaws
 pub mod ReportLaws

@@ -16,7 +16,7 @@ use Rattle.cobleskeg.specs.declared.ReadAnswer.the-variants.{Refused, Counts}
 use Rattle.cobleskeg.specs.Answers.{headerOf, readReply}
 use Rattle.model.specs.Listing.{refusedWord, line, replyLines, searchLines, listing}
 use Rattle.listing.specs.Writing.{Room, Wrote, printed}
-use Rattle.listing.specs.Tables.{Counted, Lent}
+use Rattle.listing.specs.TableLines.{Counted, Lent}
 use Rattle.listing.proofs.WritingLaws.{written-whole}
 use Rattle.listing.proofs.SearchedLaws.{reading-range}
 

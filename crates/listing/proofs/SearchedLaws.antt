@@ -18,7 +18,7 @@ use Rattle.model.specs.Reading.{Accepted, problemOf, reading}
 use Rattle.model.specs.Operations.{Searched, search}
 use Rattle.laws.proofs.ReplyLaws.{refused≢answered, answered-inj, andThen-answered}
 use Rattle.laws.proofs.LayoutLaws.{layout-parts}
-use Rattle.laws.proofs.SearchLaws.{none≢found, spent≢found}
+use Rattle.laws.proofs.BudgetLaws.{none≢found, spent≢found}
 use Rattle.laws.proofs.SolutionLaws.{tableOf-length}
 use Rattle.format.proofs.AcceptLaws.{problemOf-holds}
 use Rattle.cobleskeg.specs.declared.SearchAnswer.{SearchAnswer}
@@ -27,10 +27,10 @@ use Rattle.cobleskeg.specs.Answers.{searchReply}
 use Rattle.cobleskeg.specs.Claims.{SearchHolds}
 use Rattle.model.specs.Listing.{foundWord, noneWord, spentWord, line, solutionLines, outcomeLines, replyLines, searchLines}
 use Rattle.listing.specs.Writing.{Room}
-use Rattle.listing.specs.Tables.{tableLines, Lengths, Lent}
+use Rattle.listing.specs.TableLines.{tableLines, Lengths, Lent}
 use Rattle.listing.proofs.NumeralLaws.{decimal-length}
 use Rattle.listing.proofs.LengthLaws.{ending-most, choice-most}
-use Rattle.listing.proofs.SolutionLaws.{own-lengths, solution-lines, table-lines}
+use Rattle.listing.proofs.FoundLaws.{own-lengths, solution-lines, table-lines}
 
 -- "There are s strings (0 to 16) and t numbers (0 to 16)"
 pub reading-range : (file : List ℕ) (a : Accepted) → reading file ≡ answered a → (a .problem .strings ≤ 16) × (a .problem .numbers ≤ 16)

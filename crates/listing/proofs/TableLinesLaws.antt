@@ -9,21 +9,21 @@ use Rattle.model.specs.Domains.{row}
 use Rattle.laws.proofs.DomainLaws.{row-word, row-length}
 use Rattle.model.specs.Listing.{decimal, line, stringLine}
 use Rattle.listing.specs.Writing.{Room}
-use Rattle.listing.specs.Tables.{value, textOf, Lengths}
+use Rattle.listing.specs.TableLines.{onlyValue, textOf, Lengths}
 
 -- the line of a row, in the parts in which it is written
-pub string-parts : (r : List ℕ) (x n : ℕ) → n ≡ value (getD r 0 0) → length r ≡ 64 → value (getD r 0 0) < 64
-    → stringLine x (textOf r) ≡ line (115 ∷ decimal x) (n ∷ map value (take (n + 1 - 1) (drop 1 r)))
+pub string-parts : (r : List ℕ) (x n : ℕ) → n ≡ onlyValue (getD r 0 0) → length r ≡ 64 → onlyValue (getD r 0 0) < 64
+    → stringLine x (textOf r) ≡ line (115 ∷ decimal x) (n ∷ map onlyValue (take (n + 1 - 1) (drop 1 r)))
 unfolding stringLine textOf
 string-parts r x n e size short =
-    let k : n + 1 - 1 ≡ value (getD r 0 0) = omega arith in
-    let count : length (map value (take (value (getD r 0 0)) (drop 1 r))) ≡ n =
-    length-map (take (value (getD r 0 0)) (drop 1 r)) value ∙ length-take-le (value (getD r 0 0)) (drop 1 r) (omega (arith, length-drop 1 r)) ∙ sym e in
+    let k : n + 1 - 1 ≡ onlyValue (getD r 0 0) = omega arith in
+    let count : length (map onlyValue (take (onlyValue (getD r 0 0)) (drop 1 r))) ≡ n =
+    length-map (take (onlyValue (getD r 0 0)) (drop 1 r)) onlyValue ∙ length-take-le (onlyValue (getD r 0 0)) (drop 1 r) (omega (arith, length-drop 1 r)) ∙ sym e in
     rw (count, k)
 
 -- what the line of a row asks, for its parts
-pub string-room : (r : List ℕ) (x n : ℕ) → n ≡ value (getD r 0 0) → {l : List ℕ} {i : ℕ}
-    → (length r ≡ 64) × (value (getD r 0 0) < 64) × Room l i (stringLine x (textOf r)) → Room l i (line (115 ∷ decimal x) (n ∷ map value (take (n + 1 - 1) (drop 1 r))))
+pub string-room : (r : List ℕ) (x n : ℕ) → n ≡ onlyValue (getD r 0 0) → {l : List ℕ} {i : ℕ}
+    → (length r ≡ 64) × (onlyValue (getD r 0 0) < 64) × Room l i (stringLine x (textOf r)) → Room l i (line (115 ∷ decimal x) (n ∷ map onlyValue (take (n + 1 - 1) (drop 1 r))))
 string-room r x n e pre = rw (string-parts r x n e (pre .0) (pre .1)) at (pre .2)
 
 row-part : (T : List ℕ) (x : ℕ) → take (64 * x + 64 - 64 * x) (drop (64 * x) T) ≡ row T x
@@ -33,7 +33,7 @@ row-part T x = let e : 64 * x + 64 - 64 * x ≡ 64 = omega arith in ap (λ (n : 
 -- what the line of a row asks of its part of the table
 pub part-ready : (T : List ℕ) (s x : ℕ) → 64 * s ≤ length T → x < s → Lengths T s → {l : List ℕ} {i : ℕ} → Room l i (stringLine x (textOf (row T x)))
     → (length (take (64 * x + 64 - 64 * x) (drop (64 * x) T)) ≡ 64)
-    × (value (getD (take (64 * x + 64 - 64 * x) (drop (64 * x) T)) 0 0) < 64)
+    × (onlyValue (getD (take (64 * x + 64 - 64 * x) (drop (64 * x) T)) 0 0) < 64)
     × Room l i (stringLine x (textOf (take (64 * x + 64 - 64 * x) (drop (64 * x) T))))
 part-ready T s x h k short room =
     let e : 64 * x + 0 ≡ 64 * x = omega arith in

@@ -1,3 +1,3 @@
 -- The definitions that the contracts of the listing cite.
 pub mod Writing
-pub mod Tables
+pub mod TableLines

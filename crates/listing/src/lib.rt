@@ -8,7 +8,7 @@ ghost use lib.ListN.{length, getD, drop};
 ghost use Rattle.model.specs.Reading.{reading};
 ghost use Rattle.model.specs.Listing.{decimal, field, line, stringLine, numberLine, replyLines, searchLines, listing};
 ghost use Rattle.listing.specs.Writing.{Room, Wrote, printed};
-ghost use Rattle.listing.specs.Tables.{value as Tables·value, textOf, rowLines, wordLines, tableLines, Lengths, Counted, Lent};
+ghost use Rattle.listing.specs.TableLines.{onlyValue, textOf, rowLines, wordLines, tableLines, Lengths, Counted, Lent};
 
 // The bytes of the largest file.
 const LARGEST: usize = 25024;
@@ -75,15 +75,15 @@ fn ending(word: &[u8], n: usize, lines: &mut [u8]) -> usize
 
 // The value of a domain that has only this one: the place of its bit.
 fn value(domain: u64) -> usize
-    ensures { λ r. ⌜ r ≡ Tables·value domain ⌝ }
+    ensures { λ r. ⌜ r ≡ onlyValue domain ⌝ }
 {
     u64::trailing_zeros(domain) as usize
 }
 
 // A field for the value of each domain.
 fn values(domains: &[u64], lines: &mut [u8], at: usize) -> usize
-    requires { ⌜ Room (now lines) at (flatMap field (map Tables·value (now domains))) ⌝ }
-    ensures { λ r. ⌜ Wrote (now (lines .entry)) at (flatMap field (map Tables·value (now (domains .entry)))) (now (lines .exit)) r ⌝ }
+    requires { ⌜ Room (now lines) at (flatMap field (map onlyValue (now domains))) ⌝ }
+    ensures { λ r. ⌜ Wrote (now (lines .entry)) at (flatMap field (map onlyValue (now (domains .entry)))) (now (lines .exit)) r ⌝ }
 {
     let mut end = at;
     for i in 0..domains.len() {
@@ -94,7 +94,7 @@ fn values(domains: &[u64], lines: &mut [u8], at: usize) -> usize
 
 // The line of string x: its length, and the symbols at its places.
 fn string_line(x: usize, row: &[u64], lines: &mut [u8], at: usize) -> usize
-    requires { ⌜ (length (now row) ≡ 64) × (Tables·value (getD (now row) 0 0) < 64) × Room (now lines) at (stringLine x (textOf (now row))) ⌝ }
+    requires { ⌜ (length (now row) ≡ 64) × (onlyValue (getD (now row) 0 0) < 64) × Room (now lines) at (stringLine x (textOf (now row))) ⌝ }
     ensures { λ r. ⌜ Wrote (now (lines .entry)) at (stringLine x (textOf (now (row .entry)))) (now (lines .exit)) r ⌝ }
 {
     let n = value(row[0]);
@@ -106,8 +106,8 @@ fn string_line(x: usize, row: &[u64], lines: &mut [u8], at: usize) -> usize
 
 // The line of number x.
 fn number_line(x: usize, word: u64, lines: &mut [u8], at: usize) -> usize
-    requires { ⌜ Room (now lines) at (numberLine x (Tables·value word)) ⌝ }
-    ensures { λ r. ⌜ Wrote (now (lines .entry)) at (numberLine x (Tables·value word)) (now (lines .exit)) r ⌝ }
+    requires { ⌜ Room (now lines) at (numberLine x (onlyValue word)) ⌝ }
+    ensures { λ r. ⌜ Wrote (now (lines .entry)) at (numberLine x (onlyValue word)) (now (lines .exit)) r ⌝ }
 {
     let position = marked(b'n', x, lines, at);
     let end = marked(b' ', value(word), lines, position);

@@ -10,7 +10,7 @@ use Rattle.model.specs.Domains.{sameVariable, texts, strings, row, value
 use Rattle.model.specs.Constraints.{variables, meets}
 use Rattle.model.specs.Solutions.{textBit, used}
 use Rattle.model.specs.Support.{choices, supports, touches, narrowed, struck}
-use Rattle.model.specs.Rounds.{variablesOf, valueCount, alive, steps, run, round, after, settlingIn, settling}
+use Rattle.model.specs.Rounds.{variablesOf, valueCount, everyValue, steps, run, round, after, settlingIn, settling}
 use Rattle.model.specs.Tree.{solved, wordsOf, branchVariable, branchWord, branch, restricted, children, nodesIn, nodes, numbered, firstSolved, hit, miss, searching}
 use Rattle.model.specs.Replies.{refused, answered, require, obtain, andThen}
 use Rattle.model.specs.Layout.{little, trailer, inBounds, abutting, layout}
@@ -55,7 +55,7 @@ lines14 =
 searchLines14 : searchLines (answered file14) ≡ answered lines14
 unfolding lines14 file14 fileFrom tableFrom sets set select any all find mapFrom from upto same bit bits several union size
     sameVariable texts strings row valuesOf owner variables meets textBit used
-    choices supports touches narrowed struck variablesOf valueCount alive steps run round after settlingIn settling
+    choices supports touches narrowed struck variablesOf valueCount everyValue steps run round after settlingIn settling
     solved wordsOf branchVariable branchWord branch restricted children nodesIn nodes numbered firstSolved hit miss searching
     require andThen search flatMap Option·elim bind decimalIn decimal field line stringLine numberLine solutionLines outcomeLines searchLines
 searchLines14 = refl

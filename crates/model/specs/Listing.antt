@@ -47,7 +47,7 @@ stringLine x u = line (115 ∷ decimal x) (length u ∷ u)
 unfoldable pub numberLine : ℕ → ℕ → List ℕ
 numberLine n v = line (110 ∷ decimal n) (v ∷ [])
 
--- "it prints for each string .., then for each number ..": a line for each value of each domain, and in a solved table each domain has exactly one
+-- "it prints for each string … then for each number": a line for each value of each domain, and in a solved table each domain has exactly one
 unfoldable pub solutionLines : Problem → List ℕ → List ℕ
 solutionLines P T =
     flatMap (λ x. flatMap (stringLine x) (stringsOf T x)) (upto (P .strings))
@@ -68,13 +68,13 @@ spentWord = 115 ∷ 112 ∷ 101 ∷ 110 ∷ 116 ∷ []
 abbrev pub refusedWord : List ℕ
 refusedWord = 114 ∷ 101 ∷ 102 ∷ 117 ∷ 115 ∷ 101 ∷ 100 ∷ []
 
--- "It prints `found`, `none`, `spent` .. and the count"; "After `found` it prints" the solution
+-- "It prints `found`, `none`, `spent` … and the count"; "After `found` it prints" the solution
 unfoldable pub outcomeLines : Problem → List ℕ → Outcome → List ℕ
 outcomeLines P T (found n) = line foundWord (n ∷ []) ++ solutionLines P T
 outcomeLines P T (none n) = line noneWord (n ∷ [])
 outcomeLines P T (spent n) = line spentWord (n ∷ [])
 
--- "It prints .. `refused` and the .. refusal number"
+-- "It prints … `refused` and the … refusal number"
 unfoldable pub replyLines : Reply (List ℕ) → List ℕ
 replyLines (refused n) = line refusedWord (n ∷ [])
 replyLines (answered text) = text

@@ -1,7 +1,7 @@
 use Prim.Native.Nat.{_*_}
 use Rattle.listing.proofs.TableLinesLaws.{rest-part}
 use Rattle.listing.proofs.WritingLaws.{wrote-append, room-first, room-rest}
-use Rattle.listing.specs.Tables.{rowLines, tableLines}
+use Rattle.listing.specs.TableLines.{rowLines, tableLines}
 use borrow.Author.Needs.{needs}
 use Rattle.listing.proofs.solution.Statement.{statement}
 use Rattle.listing.proofs.solution.Tie as tie

@@ -9,7 +9,7 @@ use Rattle.model.specs.Lists.{upto}
 use Rattle.model.specs.Domains.{row}
 use Rattle.model.specs.Listing.{stringLine}
 use Rattle.listing.specs.Writing.{Wrote}
-use Rattle.listing.specs.Tables.{textOf, rowLines}
+use Rattle.listing.specs.TableLines.{textOf, rowLines}
 use borrow.Author.Needs.{needs}
 use Rattle.listing.proofs.string_lines.Statement.{statement}
 use Rattle.listing.proofs.string_lines.Tie as tie

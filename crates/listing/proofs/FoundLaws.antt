@@ -12,14 +12,15 @@ use Rattle.model.specs.Words.{bits, word}
 use Rattle.model.specs.Domains.{row, stringsOf, valuesOf}
 use Rattle.model.specs.Constraints.{Choice, Problem, width}
 use Rattle.model.specs.Solutions.{Fits, textBit, tableOf}
-use Rattle.laws.proofs.ListLaws.{In, of-upto, flatMap-cong}
+use Rattle.laws.specs.Inclusion.{In, Single}
+use Rattle.laws.proofs.ListLaws.{of-upto, flatMap-cong}
 use Rattle.laws.proofs.WordLaws.{of-bits}
-use Rattle.laws.proofs.BitsLaws.{Single, pow-single}
+use Rattle.laws.proofs.BitsLaws.{pow-single}
 use Rattle.laws.proofs.RowLaws.{Short, of-strings, length-pow, symbol-pow, text-single, strings-few}
 use Rattle.laws.proofs.DomainLaws.{row-word, row-length, row-single, used-text, used-value}
 use Rattle.laws.proofs.SolutionLaws.{tableOf-length, tableOf-word, own-fits}
 use Rattle.model.specs.Listing.{stringLine, numberLine, solutionLines}
-use Rattle.listing.specs.Tables.{value, textOf, rowLines, wordLines, tableLines, Lengths}
+use Rattle.listing.specs.TableLines.{onlyValue, textOf, rowLines, wordLines, tableLines, Lengths}
 
 -- ---- the value of a word with one bit
 
@@ -33,8 +34,8 @@ trailing-pow (suc k) (suc v) h =
     let f : 2 ^ suc v / 2 ≡ 2 ^ v = omega arith in
     rw (e, f) (ap suc (trailing-pow k v (omega arith)))
 
-value-pow : (v : ℕ) → v < 64 → value (2 ^ v) ≡ v
-unfolding value
+value-pow : (v : ℕ) → v < 64 → onlyValue (2 ^ v) ≡ v
+unfolding onlyValue
 value-pow v h = trailing-pow 64 v h
 
 -- ---- lists
@@ -94,8 +95,8 @@ module _ (P : Problem) (F : List ℕ) (α : Choice) (fits : Fits P F α) where
       only-member (bits (word own (64 * P .strings + n))) (α .value n) (subst Single (sym (value-word n h)) (pow-single (α .value n))) (own-fits P α F fits .values-in n h)
 
   -- the values by the words
-  row-value : (x j v : ℕ) → x < P .strings → j < 64 → v < 64 → textBit (α .text x) j ≡ 2 ^ v → value (word (row own x) j) ≡ v
-  row-value x j v h k l e = ap value (row-word own x j k ∙ text-word x j h k ∙ e) ∙ value-pow v l
+  row-value : (x j v : ℕ) → x < P .strings → j < 64 → v < 64 → textBit (α .text x) j ≡ 2 ^ v → onlyValue (word (row own x) j) ≡ v
+  row-value x j v h k l e = ap onlyValue (row-word own x j k ∙ text-word x j h k ∙ e) ∙ value-pow v l
 
   own-text : (x : ℕ) → x < P .strings → textOf (row own x) ≡ α .text x
   unfolding textOf
@@ -103,19 +104,19 @@ module _ (P : Problem) (F : List ℕ) (α : Choice) (fits : Fits P F α) where
       let u = α .text x in
       let s = text-short x h in
       let short = s .length-short in
-      let first : value (getD (row own x) 0 0) ≡ length u = row-value x 0 (length u) h (omega arith) short (length-pow u 0 (omega arith)) in
+      let first : onlyValue (getD (row own x) 0 0) ≡ length u = row-value x 0 (length u) h (omega arith) short (length-pow u 0 (omega arith)) in
       let size = row-length own x (omega (arith, own-length)) in
       let cut : length (take (length u) (drop 1 (row own x))) ≡ length u = length-take-le (length u) (drop 1 (row own x)) (omega (arith, length-drop 1 (row own x))) in
-      rw first (ext-getD 0 (map value (take (length u) (drop 1 (row own x)))) u (length-map (take (length u) (drop 1 (row own x))) value ∙ cut)
+      rw first (ext-getD 0 (map onlyValue (take (length u) (drop 1 (row own x)))) u (length-map (take (length u) (drop 1 (row own x))) onlyValue ∙ cut)
       (λ i k.
-      let inside : i < length u = omega (arith, length-map (take (length u) (drop 1 (row own x))) value, cut) in
+      let inside : i < length u = omega (arith, length-map (take (length u) (drop 1 (row own x))) onlyValue, cut) in
       let e : 1 + i ≡ suc i = omega arith in
-      getD-map value (take (length u) (drop 1 (row own x))) i (omega (arith, cut))
-      ∙ ap value (getD-take (length u) (drop 1 (row own x)) i 0 inside ∙ getD-drop 1 (row own x) i 0 ∙ ap (λ (j : ℕ). word (row own x) j) e)
+      getD-map onlyValue (take (length u) (drop 1 (row own x))) i (omega (arith, cut))
+      ∙ ap onlyValue (getD-take (length u) (drop 1 (row own x)) i 0 inside ∙ getD-drop 1 (row own x) i 0 ∙ ap (λ (j : ℕ). word (row own x) j) e)
       ∙ row-value x (suc i) (getD u i 0) h (omega arith) (s .symbols-short i inside) (symbol-pow u i inside)))
 
-  own-value : (n : ℕ) → n < P .numbers → value (getD (drop (64 * P .strings) own) n 0) ≡ α .value n
-  own-value n h = ap value (getD-drop (64 * P .strings) own n 0 ∙ value-word n h) ∙ value-pow (α .value n) (value-short n h)
+  own-value : (n : ℕ) → n < P .numbers → onlyValue (getD (drop (64 * P .strings) own) n 0) ≡ α .value n
+  own-value n h = ap onlyValue (getD-drop (64 * P .strings) own n 0 ∙ value-word n h) ∙ value-pow (α .value n) (value-short n h)
 
   -- what the writing asks of the table
   pub own-lengths : Lengths (tableOf P α) (P .strings)

@@ -12,12 +12,12 @@ use Rattle.model.specs.Reading.{Accepted, reading}
 use Rattle.model.specs.Listing.{stringLine, numberLine}
 
 -- the value of a domain that has only this one: the place of its bit
-unfoldable pub value : ℕ → ℕ
-value w = trailingZeros 64 w
+unfoldable pub onlyValue : ℕ → ℕ
+onlyValue w = trailingZeros 64 w
 
 -- the string of a row that stands for this one only
 unfoldable pub textOf : List ℕ → List ℕ
-textOf r = map value (take (value (getD r 0 0)) (drop 1 r))
+textOf r = map onlyValue (take (onlyValue (getD r 0 0)) (drop 1 r))
 
 -- the lines of the first n rows
 unfoldable pub rowLines : List ℕ → ℕ → List ℕ
@@ -25,7 +25,7 @@ rowLines T n = flatMap (λ x. stringLine x (textOf (row T x))) (upto n)
 
 -- the lines of the first n number words
 unfoldable pub wordLines : List ℕ → ℕ → List ℕ
-wordLines ws n = flatMap (λ x. numberLine x (value (getD ws x 0))) (upto n)
+wordLines ws n = flatMap (λ x. numberLine x (onlyValue (getD ws x 0))) (upto n)
 
 -- the lines of a table of s strings
 unfoldable pub tableLines : ℕ → List ℕ → List ℕ
@@ -33,7 +33,7 @@ tableLines s T = rowLines T s ++ wordLines (drop (64 * s) T) (length (drop (64 *
 
 -- each of the first n rows has a length below 64
 abbrev pub Lengths : List ℕ → ℕ → Type 0
-Lengths T n = (x : ℕ) → x < n → value (getD T (64 * x) 0) < 64
+Lengths T n = (x : ℕ) → x < n → onlyValue (getD T (64 * x) 0) < 64
 
 -- a file that Read accepts, of s strings and t numbers
 pub record Counted (file : List ℕ) (s t : ℕ) : Type 0 where
