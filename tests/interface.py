@@ -21,7 +21,7 @@ DECLARATIONS = ROOT / "bindings" / "rust" / "src" / "entries.rs"
 SOURCE = ROOT / "crates" / "cobleskeg_c" / "src" / "lib.rt"
 C_TYPES = {"uint8_t": "u8", "uint32_t": "u32", "uint64_t": "u64", "size_t": "usize", "void": ""}
 MADE_BY = {ARCHIVE: "rt staticlib cobleskeg_c", PROGRAM: "rt check clash"}
-STATUS = {"found": 0, "none": 1, "spent": 2, "refused": 3}  # of the program `answer`, by its first word
+STATUS = {"none": 0, "found": 1, "spent": 2, "refused": 3}  # of the program `answer`, by its first word
 TROUBLE = 4
 
 

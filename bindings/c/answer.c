@@ -2,7 +2,7 @@
  *
  * FILE is a problem file, or `-` or nothing for standard input; BUDGET is the count of nodes that the search may visit, 65536 if not given. It prints the
  * lines of the program `clash`: `found`, `none`, `spent` or `refused` and the count or the refusal, after `found` a line for each string and each number.
- * The exit status is 0 for found, 1 for none, 2 for spent, 3 for refused, 4 if it cannot read or print, or is called otherwise.
+ * The exit status is 0 for none alone, 1 for found, 2 for spent, 3 for refused, 4 if it cannot read or print, or is called otherwise.
  */
 #include <cobleskeg.h>
 #include <errno.h>
@@ -11,7 +11,7 @@
 #include <stdlib.h>
 #include <string.h>
 
-enum { FOUND = 0, NONE = 1, SPENT = 2, REFUSED = 3, TROUBLE = 4 };
+enum { NONE = 0, FOUND = 1, SPENT = 2, REFUSED = 3, TROUBLE = 4 };
 
 /* One byte more than the largest file shows an input that is longer. */
 static uint8_t file[COBLESKEG_LARGEST_FILE + 1];
