@@ -63,6 +63,11 @@ class Problem:
     def named(self, noun):
         return {"string": self.strings, "number": self.numbers, "automaton": self.automata}[noun]
 
+    def names(self, constraint):
+        """What a constraint names, in the order of its arguments."""
+        kind, positions = constraint
+        return [list(self.named(noun))[position] for noun, position in zip(KINDS[kind - 1][1], positions)]
+
 
 def repeats(kind, arguments):
     """Whether a constraint names one string twice."""

@@ -18,12 +18,21 @@ class Draft(NamedTuple):
     states: dict  # name to (line, whether it accepts, the next state's name for each symbol)
 
 
+class Text(NamedTuple):
+    """A problem, and where its text says what; a line is its number from 1."""
+
+    problem: Problem
+    declared: dict  # name of a string, number or automaton to its line
+    places: dict  # (name of a string, place) to the `at` line that gives this place its letters
+    constraints: list  # the line of each constraint
+
+
 class Reader:
     def __init__(self):
         self.problem = Problem("", {}, {}, {}, [])
         self.declared = {}  # name of a string, number or automaton to (what it is, its line)
-        self.row = None  # of the string that `at` lines add to
-        self.places = set()  # of that string, given by its `at` lines
+        self.above = None  # the string that `at` lines add to
+        self.places = {}  # (name of a string, place) to its `at` line
         self.draft = None  # the automaton that `state` and `accepting` lines add to
         self.constraints = []  # (line, kind, names) until every name is declared
 
@@ -34,7 +43,7 @@ class Reader:
         if word.text != "alphabet" and not self.problem.letters:
             raise line.wrong("the alphabet comes first: expected 'alphabet' and its letters")
         if word.text != "at":
-            self.row = None
+            self.above = None
         if word.text not in ("state", "accepting"):
             self.finish_automaton()
         STATEMENTS[word.text](self, line)
@@ -87,8 +96,8 @@ class Reader:
         lengths = line.numbers("a length", 0) if line.took("length") else EVERY
         symbols = self.letters(line) if line.took("of") else (1 << len(self.problem.letters)) - 1
         longest = max(lengths.bit_length() - 1, 0)
-        self.row, self.places = [lengths] + [symbols] * longest + [0] * (LIMIT - 1 - longest), set()
-        self.problem.strings[name] = self.row
+        self.problem.strings[name] = [lengths] + [symbols] * longest + [0] * (LIMIT - 1 - longest)
+        self.above = name
 
     def text_row(self, line):
         """The row that stands for just this text."""
@@ -101,15 +110,15 @@ class Reader:
         return [1 << len(words)] + words + [0] * (LIMIT - 1 - len(words))
 
     def at(self, line):
-        if self.row is None:
+        if self.above is None:
             raise line.wrong("an 'at' line belongs under a 'string' line with lengths")
         places = line.numbers("a place", 1)
         symbols = self.letters(line)
         for place in (i for i in range(1, LIMIT) if places >> i & 1):
-            if place in self.places:
+            if (self.above, place) in self.places:
                 raise line.wrong(f"place {place} has its letters already: expected each place once")
-            self.places.add(place)
-            self.row[place] = symbols
+            self.places[self.above, place] = line.number
+            self.problem.strings[self.above][place] = symbols
 
     def number(self, line):
         name = self.declare(line, "number")
@@ -193,7 +202,8 @@ class Reader:
             raise Wrong(path, 1, "there is no alphabet: expected 'alphabet' and its letters")
         self.finish_automaton()
         self.problem.constraints = [self.resolved(*constraint) for constraint in self.constraints]
-        return self.problem
+        declared = {name: number for name, (_, number) in self.declared.items()}
+        return Text(self.problem, declared, self.places, [line.number for line, _, _ in self.constraints])
 
 
 def constraint_reader(kind):
@@ -204,8 +214,8 @@ STATEMENTS = {word: getattr(Reader, word) for word in ("alphabet", "string", "at
 STATEMENTS.update({word: constraint_reader(i + 1) for i, (word, _) in enumerate(KINDS)})
 
 
-def read(path, content):
-    """The problem in a text, given as bytes; the path is named in errors. Raises Wrong."""
+def read_text(path, content):
+    """A text, given as bytes; the path is named in errors. Raises Wrong."""
     try:
         text = content.decode("utf-8-sig")
     except UnicodeDecodeError as error:
@@ -216,3 +226,8 @@ def read(path, content):
         if line.tokens:
             reader.statement(line)
     return reader.finish(path)
+
+
+def read(path, content):
+    """The problem in a text. Raises Wrong."""
+    return read_text(path, content).problem

@@ -100,9 +100,8 @@ def text(problem):
     lines += [f"number {name}" + ("" if word == EVERY else f" in {number_set(word)}") for name, word in problem.numbers.items()]
     for name, automaton in problem.automata.items():
         lines += [f"automaton {name}"] + [state_line(automaton, state, problem.letters) for state in range(len(automaton.states))]
-    for kind, positions in problem.constraints:
-        word, nouns = KINDS[kind - 1]
-        lines.append(" ".join([word] + [list(problem.named(noun))[position] for noun, position in zip(nouns, positions)]))
+    for constraint in problem.constraints:
+        lines.append(" ".join([KINDS[constraint[0] - 1][0], *problem.names(constraint)]))
     return "".join(line + "\n" for line in lines)
 
 
