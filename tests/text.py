@@ -148,7 +148,9 @@ BROKEN = [
     (b"alphabet a\n# \xff", 2, "a byte is not UTF-8: expected plain text"),
 ]
 
+UNFIT = "the file has 3 strings, the text 2: expected the text that it was packed from"  # P14's file, the text NAMED
 NAMED = "alphabet x y\nstring course length 1\nstring none = \"\"\nnumber width in 3\n"
+FIRST = "line 1: expected found, none, spent or refused and a number, as the program prints"
 # (lines that the program prints for NAMED, the answer in words or its error)
 ANSWERS = [
     (
@@ -159,7 +161,15 @@ ANSWERS = [
     ("spent 65536\n", "spent: the budget ran out before the answer was known; nodes visited: 65536\n"),
     ("refused 8\n", "refused 8: a constraint names one string twice\n"),
     ("refused 9\n", wording.Unfit("line 1: 9 is no refusal of a file: expected 1 to 8")),
-    ("", wording.Unfit("line 1: expected found, none, spent or refused and a number, as the program prints")),
+    ("", wording.Unfit("it is empty: the program has not answered")),
+    ("none 1", wording.Unfit("line 1 does not end in a newline: the output is cut")),
+    ("fou", wording.Unfit("line 1 does not end in a newline: the output is cut")),
+    ("found 7\ns0 1 1\ns1 0\nn0 3", wording.Unfit("line 4 does not end in a newline: the output is cut")),
+    ("\n", wording.Unfit(FIRST)),
+    ("none\n", wording.Unfit(FIRST)),
+    ("none 1\r\n", wording.Unfit(FIRST)),
+    ("none 99999999999\n", wording.Unfit(FIRST)),
+    ("none 1\nnone 1\n", wording.Unfit("it has 2 lines: expected 1 for 'none' and this text")),
     ("found 7\ns0 1 1\ns1 0\n", wording.Unfit("it has 3 lines: expected 4 for 'found' and this text")),
     ("found 7\ns0 1 2\ns1 0\nn0 3\n", wording.Unfit("line 2: expected 's0' and a length and as many symbols below 2, found 's0 1 2'")),
     ("found 7\ns0 1\ns1 0\nn0 3\n", wording.Unfit("line 2: expected 's0' and a length and as many symbols below 2, found 's0 1'")),
@@ -273,7 +283,7 @@ def named_trips():
         if packed(shown) != content or read(shown) != names:
             wrong.append(f"text {i} of TEXTS is not shown with its own names")
     said = complaint(lambda: wording.renamed(packing.unpack(P14), read(NAMED)), wording.Unfit)
-    if said != "the file has 3 strings, the text 2: expected the text that it was packed from":
+    if said != UNFIT:
         wrong.append("a text with fewer strings lends its names")
     return wrong
 
@@ -313,8 +323,9 @@ def run(*arguments, given=b""):
 def commands():
     """The tool as it is called: exit status, standard output, standard error, and what is written."""
     with tempfile.TemporaryDirectory() as folder:
-        good, bad, made, cut = (Path(folder) / name for name in ("good.text", "bad.text", "made.problem", "cut.problem"))
+        good, bad, other, made, cut = (Path(folder) / name for name in ("good.text", "bad.text", "other.text", "made.problem", "cut.problem"))
         good.write_text(TEXTS[-1][0])
+        other.write_text(NAMED)
         bad.write_text(ABC + "eq x y")
         cut.write_bytes(P14[:100])
         named = "alphabet 0 1\nstring x length 1, 2\nstring y length 0, 1 of 1\nstring z length 2\n  at 1 0\nnumber n in 0..3\ncat x y z\nlen x n\n"
@@ -322,18 +333,29 @@ def commands():
         for name, position in (("x", "s0"), ("y", "s1"), ("z", "s2"), ("n", "n0")):
             plain = plain.replace(f" {name} ", f" {position} ").replace(f" {name}\n", f" {position}\n")
         runs = [
-            (run("pack", bad, "-o", made), (1, b"", f"{bad}:2: no string is called 'x' (declared: none)\n")),
+            (run("pack", bad, "-o", made), (3, b"", f"{bad}:2: no string is called 'x' (declared: none)\n")),
             (made.exists(), False),
-            (run("pack", bad), (1, b"", f"{bad}:2: no string is called 'x' (declared: none)\n")),
+            (run("pack", bad), (3, b"", f"{bad}:2: no string is called 'x' (declared: none)\n")),
             (run("pack", good, "-o", made), (0, b"", "")),
             (made.read_bytes() if made.exists() else None, P14),
             (run("pack", good), (0, P14, "")),
             (run("show", made), (0, plain.encode(), "")),
             (run("show", "--names", good, made), (0, named.encode(), "")),
-            (run("show", cut), (1, b"", f"{cut}: refused 2: the file does not end in the bytes TAIL\n")),
+            (run("show", cut), (3, b"", f"{cut}: refused 2: the file does not end in the bytes TAIL\n")),
             (run("answer", good, given=b"none 5\n"), (0, ANSWERS[1][1].replace("1\n", "5\n").encode(), "")),
-            (run("answer", good, given=b"found 5\n"), (1, b"", "the answer: it has 1 lines: expected 5 for 'found' and this text\n")),
-            (run("pack", Path(folder) / "absent.text"), (1, b"", f"{Path(folder) / 'absent.text'}: No such file or directory\n")),
+            (run("answer", good, given=b"spent 5\n"), (2, ANSWERS[2][1].replace("65536\n", "5\n").encode(), "")),
+            (run("answer", good, given=b"refused 8\n"), (3, ANSWERS[3][1].encode(), "")),
+            (run("answer", good, given=b"found 2\ns0 1 0\ns1 1 1\ns2 2 0 1\nn0 1\n")[::2], (1, "")),
+            (run("answer", good, given=b"found 5\n"), (4, b"", "the answer: it has 1 lines: expected 5 for 'found' and this text\n")),
+            (run("answer", good), (4, b"", "the answer: it is empty: the program has not answered\n")),
+            (run("answer", bad, given=b"none 5\n"), (3, b"", f"{bad}:2: no string is called 'x' (declared: none)\n")),
+            (run("show", "--names", other, made), (4, b"", f"{made}: {UNFIT}\n")),
+            (run("pack", Path(folder) / "absent.text"), (4, b"", f"{Path(folder) / 'absent.text'}: No such file or directory\n")),
+            (run("pack", good, "-o", Path(folder) / "none" / "made"), (4, b"", f"{Path(folder) / 'none' / 'made'}: No such file or directory\n")),
+            (run("pack")[:2], (4, b"")),
+            (run("pack", "--budget", 5, good)[:2], (4, b"")),
+            (run("weigh", good)[:2], (4, b"")),
+            (run()[:2], (4, b"")),
         ]
     return [f"command {i}: {got!r} is not {expected!r}" for i, (got, expected) in enumerate(runs) if got != expected]
 

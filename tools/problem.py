@@ -1,55 +1,121 @@
 # Problems as texts: docs/TEXT.md has the text form.
+#     python3 tools/problem.py solve TEXT [--budget N]      solves a text and says the answer in words
 #     python3 tools/problem.py pack TEXT [-o FILE]          packs a text into a problem file, to standard output where no FILE is given
 #     python3 tools/problem.py show [--names TEXT] FILE     shows a problem file as a text, with the names and letters of the TEXT it was packed from
 #     python3 tools/problem.py answer TEXT                  reads the program's answer from standard input and shows it in words
-# An error is one line on standard error, the exit status is 1, and nothing else is written.
+# The exit status of `solve` and `answer` is 0 for none alone: 1 found, 2 spent, 3 refused. For every command it is 3 for a broken text or a refused file, and 4
+# if something could not be read, run or written; `pack` and `show` end with 0 else. Errors go to standard error.
 import argparse
+import os
+import re
 import sys
+import traceback
 from pathlib import Path
 
 import packing
+import solving
 import textform
 import wording
+from solving import STATUS, Failed
+
+BROKEN, TROUBLE = STATUS["refused"], 4
 
 
-def problem_of(path):
-    return textform.read(path, Path(path).read_bytes())
+def text_of(path):
+    return textform.read_text(path, Path(path).read_bytes())
 
 
-def written(content):
-    """Bytes, so that a letter beyond ASCII is UTF-8 wherever it goes."""
-    sys.stdout.buffer.write(content)
-    sys.stdout.buffer.flush()
+def written(content, descriptor=1):
+    """All of the bytes, unbuffered: what cannot be written shows here and not when Python ends. Bytes, so that a letter beyond ASCII is UTF-8 everywhere."""
+    while content:
+        content = content[os.write(descriptor, content) :]
+
+
+def said(content):
+    """What is said on standard output."""
+    try:
+        written(content)
+    except OSError as error:
+        raise Failed(f"standard output: {error.strerror}") from None
+
+
+def complain(message):
+    """A line on standard error. That nobody can read it changes nothing."""
+    try:
+        written(f"{message}\n".encode(errors="backslashreplace"), 2)
+    except OSError:
+        pass
 
 
 def pack(options):
-    content = packing.pack(problem_of(options.text))
+    text = text_of(options.text)
+    content = packing.pack(text.problem)
     if options.output:
         Path(options.output).write_bytes(content)
     else:
-        written(content)
+        said(content)
+    return 0
 
 
 def show(options):
-    names = problem_of(options.names) if options.names else None
+    names = text_of(options.names).problem if options.names else None
     try:
         problem = packing.unpack(Path(options.file).read_bytes())
-        written(wording.text(wording.renamed(problem, names) if names else problem).encode())
-    except (packing.Refused, wording.Unfit) as error:
-        raise SystemExit(f"{options.file}: {error}")
+        said(wording.text(wording.renamed(problem, names) if names else problem).encode())
+    except packing.Refused as refused:
+        complain(f"{options.file}: {refused}")
+        return BROKEN
+    except wording.Unfit as unfit:
+        raise Failed(f"{options.file}: {unfit}") from None
+    return 0
+
+
+def answered(problem, output):
+    """Says an answer in words, and gives its exit status. Raises Failed for what is no answer to this problem."""
+    try:
+        said(wording.answer(problem, output).encode())
+    except wording.Unfit as unfit:
+        raise Failed(f"the answer: {unfit}") from None
+    return STATUS[wording.outcome(output)[0]]
 
 
 def answer(options):
-    problem = problem_of(options.text)
+    problem = text_of(options.text).problem
     try:
-        written(wording.answer(problem, sys.stdin.buffer.read().decode("ascii", "replace")).encode())
-    except wording.Unfit as error:
-        raise SystemExit(f"the answer: {error}")
+        with open(0, "rb", closefd=False) as given:
+            output = given.read()
+    except OSError as error:
+        raise Failed(f"standard input: {error.strerror}") from None
+    return answered(problem, output.decode("ascii", "replace"))
+
+
+def solve(options):
+    text = text_of(options.text)
+    solver = solving.solver(options.program, options.budget)
+    return answered(text.problem, solving.output(solver, text.problem))
+
+
+def budget(word):
+    if not re.fullmatch("[0-9]{1,10}", word) or int(word) > solving.MOST_BUDGET:
+        raise argparse.ArgumentTypeError(f"'{word}' is no budget: expected 0 to {solving.MOST_BUDGET} nodes")
+    return int(word)
+
+
+class Parser(argparse.ArgumentParser):
+    def error(self, message):
+        """Python's own status for a wrong call is 2, which means spent here."""
+        complain(f"{self.format_usage()}{self.prog}: {message}")
+        raise SystemExit(TROUBLE)
 
 
 def arguments():
-    parser = argparse.ArgumentParser(description="Problems as texts: docs/TEXT.md has the text form.")
+    parser = Parser(description="Problems as texts: docs/TEXT.md has the text form.")
     commands = parser.add_subparsers(required=True, metavar="COMMAND")
+    command = commands.add_parser("solve", help="solve a text and say the answer in words")
+    command.add_argument("text", metavar="TEXT")
+    command.add_argument("--budget", metavar="N", type=budget, help=f"the nodes that the search may visit, {solving.BUDGET} where it is not given")
+    command.add_argument("--program", metavar="FILE", help="another program to ask; with a budget it is called with the words - and N")
+    command.set_defaults(run=solve)
     command = commands.add_parser("pack", help="pack a text into a problem file")
     command.add_argument("text", metavar="TEXT")
     command.add_argument("-o", dest="output", metavar="FILE", help="the file to write; standard output where it is not given")
@@ -67,12 +133,19 @@ def arguments():
 def main():
     options = arguments()
     try:
-        options.run(options)
-    except textform.Wrong as error:
-        raise SystemExit(str(error))
+        return options.run(options)
+    except textform.Wrong as wrong:
+        complain(wrong)
+        return BROKEN
+    except Failed as failed:
+        complain(failed)
     except OSError as error:
-        raise SystemExit(f"{error.filename}: {error.strerror}")
+        complain(f"{error.filename}: {error.strerror}")
+    except Exception:
+        # Python's own status for a fault of this tool is 1, which means found here.
+        complain(traceback.format_exc().rstrip())
+    return TROUBLE
 
 
 if __name__ == "__main__":
-    main()
+    sys.exit(main())

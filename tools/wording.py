@@ -132,19 +132,34 @@ MEANING = {
 }
 
 
-def answer(problem, content):
-    """The lines that the program prints, in words. Raises Unfit."""
-    lines = content.splitlines()
-    match = re.fullmatch(r"(found|none|spent|refused) ([0-9]+)", lines[0] if lines else "")
+def ended_lines(content):
+    """The lines of an output, without their newlines. Raises Unfit where the last one has none: a program that was stopped leaves such an output."""
+    if not content:
+        raise Unfit("it is empty: the program has not answered")
+    *lines, rest = content.split("\n")
+    if rest:
+        raise Unfit(f"line {len(lines) + 1} does not end in a newline: the output is cut")
+    return lines
+
+
+def outcome(content):
+    """The word that an answer begins with, and its number. Raises Unfit."""
+    match = re.fullmatch(r"(found|none|spent|refused) ([0-9]{1,10})", ended_lines(content)[0])
     if not match:
         raise Unfit("line 1: expected found, none, spent or refused and a number, as the program prints")
-    outcome, count = match[1], int(match[2])
-    if outcome == "refused" and count not in REFUSALS:
+    word, count = match[1], int(match[2])
+    if word == "refused" and count not in REFUSALS:
         raise Unfit(f"line 1: {count} is no refusal of a file: expected 1 to {max(REFUSALS)}")
-    heads = [f"s{i} " for i in range(len(problem.strings))] + [f"n{i} " for i in range(len(problem.numbers))] if outcome == "found" else []
+    return word, count
+
+
+def answer(problem, content):
+    """The lines that the program prints, in words. Raises Unfit."""
+    (word, count), lines = outcome(content), ended_lines(content)
+    heads = [f"s{i} " for i in range(len(problem.strings))] + [f"n{i} " for i in range(len(problem.numbers))] if word == "found" else []
     if len(lines) != 1 + len(heads):
-        raise Unfit(f"it has {len(lines)} lines: expected {1 + len(heads)} for '{outcome}' and this text")
-    said = [f"refused {count}: {REFUSALS[count]}" if outcome == "refused" else MEANING[outcome].format(count)]
+        raise Unfit(f"it has {len(lines)} lines: expected {1 + len(heads)} for '{word}' and this text")
+    said = [f"refused {count}: {REFUSALS[count]}" if word == "refused" else MEANING[word].format(count)]
     for i, (name, head) in enumerate(zip([*problem.strings, *problem.numbers], heads), 1):
         said.append(f"  {name} = {value_shown(problem, lines[i], head, i + 1)}")
     return "".join(line + "\n" for line in said)
@@ -152,7 +167,7 @@ def answer(problem, content):
 
 def value_shown(problem, line, head, number):
     """A string's or a number's line without its head, in words."""
-    match = re.fullmatch(r"[0-9]+( [0-9]+)*", line[len(head) :]) if line.startswith(head) else None
+    match = re.fullmatch(r"[0-9]{1,2}( [0-9]{1,2})*", line[len(head) :]) if line.startswith(head) else None
     values = [int(field) for field in match[0].split()] if match else []
     if head[0] == "n" and len(values) == 1 and values[0] < LIMIT:
         return str(values[0])
