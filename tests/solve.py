@@ -177,7 +177,7 @@ def library_missing(folder):
     """A budget needs the archive and a compiler once, and then neither; what is older than the archive is built again."""
     root, bare = copied(folder)
     answer, archive = root / "target" / "answer", root / "target" / "staticlib" / ARCHIVE.name
-    wrong = differs("no program", run("solve", P14, **bare), TROUBLE, "", "clash is not there: `rt check clash` proves and builds it")
+    wrong = differs("no program", run("solve", P14, **bare), TROUBLE, "", "clash is not there: `python3 tools/build.py` proves and builds it")
     wrong += differs("no archive", run("solve", P14, "--budget", 2, **bare), TROUBLE, "", "`rt staticlib cobleskeg_c` proves the library and writes it")
     archive.parent.mkdir(parents=True)
     shutil.copy(ARCHIVE, archive)
@@ -193,11 +193,29 @@ def library_missing(folder):
     return wrong
 
 
+def building(folder):
+    """tools/build.py shows the lines of `rt` alone, keeps them all, and does not hide that a proof failed."""
+    root, wrong = folder / "copy", []
+    said = "rt: model proved (7 s)\nnote: a large solution\nrt: {}\n"
+    cases = [("ok, 25 crates proved", 0, 0), ("clash NOT PROVED (exit 1, 8 s)", 1, TROUBLE), ("no such crate", 2, TROUBLE)]
+    for line, status, expected in cases:
+        stand_in(root / "bin", f'[ "$*" = "check clash" ] && printf "{said.format(line)}"; exit {status}', "rt")
+        done = subprocess.run([sys.executable, str(root / "tools" / "build.py")], env=dict(os.environ, PATH=str(root / "bin")), capture_output=True)
+        shown = f"rt: model proved (7 s)\nrt: {line}\n"
+        if (done.returncode, done.stdout.decode(), bool(done.stderr)) != (expected, shown, expected != 0):
+            wrong.append(f"build.py: {done}")
+        if (root / "target" / "build.log").read_text() != said.format(line):
+            wrong.append("target/build.log is not all that rt prints")
+    (root / "bin" / "rt").unlink()
+    done = subprocess.run([sys.executable, str(root / "tools" / "build.py")], env=dict(os.environ, PATH=str(root / "bin")), capture_output=True)
+    return wrong + differs("build.py, no rt", (done.returncode, done.stdout.decode(), done.stderr.decode()), TROUBLE, "", "rt: No such file or directory")
+
+
 def main():
     wrong = [f"{path.name} is not there: run `{command}` first" for path, command in MADE_BY.items() if not path.is_file()]
     if not wrong:
         with tempfile.TemporaryDirectory() as folder:
-            for part in (stand_ins, texts, ends, solved, library_missing):
+            for part in (stand_ins, texts, ends, solved, library_missing, building):
                 wrong += part(Path(folder))
     for line in wrong:
         print("solve: " + line)

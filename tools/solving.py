@@ -36,7 +36,7 @@ def solver(program=None, budget=None):
     if budget is not None:
         return Solver([program or answer_program(), "-", str(budget)], budget)
     if program is None and not PROGRAM.is_file():
-        raise Failed(f"{PROGRAM} is not there: `rt check clash` proves and builds it")
+        raise Failed(f"{PROGRAM} is not there: `python3 tools/build.py` proves and builds it")
     return Solver([program or PROGRAM], BUDGET)
 
 
