@@ -24,6 +24,7 @@ trap 'rm -rf "$work"' EXIT
 
 # The gate has just left the program in target/bin; what it has proved is put into an archive for C and Rust.
 python3 tests/clash.py || exit 1
+python3 tests/doubtful.py || exit 1
 rt staticlib cobleskeg_c || exit 1
 python3 tests/solve.py || exit 1
 python3 tests/examples.py || exit 1

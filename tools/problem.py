@@ -4,7 +4,7 @@
 #     python3 tools/problem.py show [--names TEXT] FILE     shows a problem file as a text, with the names and letters of the TEXT it was packed from
 #     python3 tools/problem.py answer TEXT                  reads the program's answer from standard input and shows it in words
 # The exit status of `solve` and `answer` is 0 for none alone: 1 found, 2 spent, 3 refused. For every command it is 3 for a broken text or a refused file, and 4
-# if something could not be read, run or written; `pack` and `show` end with 0 else. Errors go to standard error.
+# if something could not be read, run or written; `pack` and `show` end with 0 else. Errors and warnings go to standard error.
 import argparse
 import os
 import re
@@ -12,8 +12,10 @@ import sys
 import traceback
 from pathlib import Path
 
+import doubts
 import packing
 import solving
+import templates
 import textform
 import wording
 from solving import STATUS, Failed
@@ -47,8 +49,14 @@ def complain(message):
         pass
 
 
+def warn(options, text):
+    for line, message in doubts.doubts(text):
+        complain(f"{options.text}:{line}: warning: {message}")
+
+
 def pack(options):
     text = text_of(options.text)
+    warn(options, text)
     content = packing.pack(text.problem)
     if options.output:
         Path(options.output).write_bytes(content)
@@ -91,8 +99,14 @@ def answer(options):
 
 def solve(options):
     text = text_of(options.text)
+    warn(options, text)
     solver = solving.solver(options.program, options.budget)
-    return answered(text.problem, solving.output(solver, text.problem))
+    status = answered(text.problem, solving.output(solver, text.problem))
+    if status == STATUS["none"]:
+        brief = solving.solver(options.program, options.budget and min(options.budget, solving.BUDGET))
+        for line, remark in templates.remarks(text, lambda problem: solving.outcome(brief, problem) == "none"):
+            complain(f"{options.text}:{line}: {remark}")
+    return status
 
 
 def budget(word):

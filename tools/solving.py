@@ -82,3 +82,8 @@ def output(asked, problem):
     if word == "spent" and count != asked.budget or word in ("found", "none") and count > asked.budget:
         raise Failed(f"the output of {program}: '{word} {count}' is no answer within a budget of {asked.budget} nodes")
     return printed
+
+
+def outcome(asked, problem):
+    """Found, none, spent or refused, as a word. Raises Failed."""
+    return wording.outcome(output(asked, problem))[0]

@@ -1,0 +1,53 @@
+# What in a text lets a `none` say nothing, or shows that a constraint was forgotten: a domain that holds nothing, lengths that can never be, an automaton that
+# accepts nothing, a name that no constraint names. It looks at each declaration by itself and solves nothing; templates.py has the doubts that need the solver.
+from packing import LIMIT
+from wording import number_set
+
+
+def string_doubt(text, name, row):
+    """A string that cannot be, or not in all of its lengths: its line, and what is doubtful."""
+    if row[0] == 0:
+        return text.declared[name], f"string '{name}' stands for nothing: it has no length"
+    place = next((i for i in range(1, LIMIT) if row[i] == 0), LIMIT)
+    possible, impossible = row[0] & (1 << place) - 1, row[0] >> place << place
+    if not impossible:
+        return None
+    what = f"cannot have length {number_set(impossible)}" if possible else "stands for nothing"
+    return text.places.get((name, place), text.declared[name]), f"string '{name}' {what}: place {place} has no letter"
+
+
+def reached(automaton):
+    """The states that some string leads to, as a word."""
+    states, fresh = 1, [0]
+    while fresh:
+        for state in automaton.moves[fresh.pop()]:
+            if not states >> state & 1:
+                states |= 1 << state
+                fresh.append(state)
+    return states
+
+
+def domain_doubts(text):
+    for name, row in text.problem.strings.items():
+        doubt = string_doubt(text, name, row)
+        if doubt:
+            yield doubt
+    for name, word in text.problem.numbers.items():
+        if word == 0:
+            yield text.declared[name], f"number '{name}' has no value"
+    for name, automaton in text.problem.automata.items():
+        if not automaton.accepting & reached(automaton):
+            yield text.declared[name], f"automaton '{name}' accepts nothing: no accepting state can be reached from '{automaton.states[0]}'"
+
+
+def unused_doubts(text):
+    named = {name for constraint in text.problem.constraints for name in text.problem.names(constraint)}
+    for noun in ("string", "number", "automaton"):
+        for name in text.problem.named(noun):
+            if name not in named:
+                yield text.declared[name], f"{noun} '{name}' is in no constraint"
+
+
+def doubts(text):
+    """(line, what is doubtful) of a text, in the order of its lines."""
+    return sorted([*domain_doubts(text), *unused_doubts(text)], key=lambda doubt: doubt[0])
