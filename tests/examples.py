@@ -30,6 +30,7 @@ EXAMPLES = {
     "broken": ("refused 2", {}),
     "parts_first": ("found 9", {"name": "aaa0000", "course": "aaa", "other_course": "aaa0"}),
     "name_first": ("found 34695", {"name": "aaa0000", "course": "aaa", "other_course": "aaa0"}),
+    "injective": ("none 1", {}),
 }
 CUT = {"broken": 1024}  # bytes of the packed file that the problem file has
 
@@ -139,28 +140,64 @@ def answer_faults(name, solvers):
             yield f"{solver.name} does not print {name}.answer"
 
 
+def without(text, *names):
+    """The text without the statements that name one of these."""
+    kept, under = [], False
+    for line in text.split("\n"):
+        under = not set(line.split()) & set(names) and (under or not line.startswith(" "))
+        kept += [line] if under else []
+    return "\n".join(kept)
+
+
+def injective_texts():
+    """What injective.text and docs/GUIDE.md say of it: (what is changed, the text, how its answer begins)."""
+    text = "\n".join(statements("injective"))
+    neq = without(text, "rest") + "\nneq course other_course"
+    signer = without(text, "course", "other_course", "front", "other_front") + "".join(
+        f"\ncat {other}signer {other}rendition {other}middle" for other in ("", "other_")
+    )
+    rendition = without(signer, "signer", "other_signer", "middle", "other_middle") + "".join(
+        f"\ncat {other}rendition {other}counter name" for other in ("", "other_")
+    )
+    yield "injective.text with neq", neq, "spent 65536\n"
+    yield "injective.text with neq and courses of two letters", neq.replace("course length 3..8", "course length 2"), "none 703\n"
+    yield "injective.text from the signer on", signer + "\ncat signer rest other_signer", "none 1\n"
+    yield "injective.text from the rendition on", rendition + "\ncat rendition rest other_rendition", "none 1\n"
+    dashes = text.replace("course length 3..8 of a..z", "course length 3..8 of a..z -").replace("signer length 3..9 of a..z", "signer length 3..9 of a..z -")
+    yield "injective.text with dashes in courses and signers", dashes, "found "
+    # Two letters, declared first, at one place of both parts: the root, and a child for each letter of the one.
+    fixed = without(text, "rest").replace("string course length 3..8", "string course length 5").replace("string signer length 3..9", "string signer length 5")
+    for part, place, letters, nodes in (("rendition", 2, "a..z", 27), ("rendition", 5, "a..z", 27), ("counter", 2, "0..9", 11), ("counter", 6, "0..9", 11)):
+        asked = fixed if part == "rendition" else fixed.replace("string rendition length 3..5", "string rendition length 3")
+        first = f"\nstring letter length 1 of {letters}\nstring other_letter length 1 of {letters}\n"
+        differing = f"\nnumber place in {place}\nsub {part} letter place\nsub other_{part} other_letter place\nneq letter other_letter"
+        yield f"injective.text, the {part} at place {place}", asked.replace("\n", first, 1) + differing, f"none {nodes}\n"
+
+
+def changed_texts():
+    """What the other texts say of changes to them, in the same form."""
+    rule, counter, budget = "\n".join(statements("rule")[:-1]), "\n".join(statements("counter")), "\n".join(statements("budget"))
+    one_width = counter.replace("number width_1080 in 1..5\n", "").replace("width_1080", "width_master")
+    yield "rule.text without its last line", rule, path("renditions", "answer").read_text()
+    yield "counter.text with one width", one_width, "none "
+    yield "counter.text with a dash behind the rendition", counter.replace('"-1080"', '"-1080-"'), "none "
+    yield "budget.text with five digits", budget.replace("length 8", "length 5"), "none 11111\n"
+    yield "the whole file of broken.text", "\n".join(statements("broken")), "none "
+    yield "budget.text with one automaton", budget.replace("accepting", "state").replace("regular serial odd", ""), "none 1\n"
+
+
 def relation_faults(solvers):
     """What the texts say of one another and of changes to them."""
     if path("p14", "answer").read_text().splitlines() != LISTING:
         yield "p14.answer is not the paper's listing"
     if sorted(statements("parts_first")) != sorted(statements("name_first")):
         yield "parts_first.text and name_first.text are not one problem in two orders"
-    rule, counter, budget = statements("rule"), "\n".join(statements("counter")), "\n".join(statements("budget"))
-    one_width = counter.replace("number width_1080 in 1..5\n", "").replace("width_1080", "width_master")
-    changed = [
-        ("rule.text without its last line", "\n".join(rule[:-1]), path("renditions", "answer").read_text()),
-        ("counter.text with one width", one_width, "none "),
-        ("counter.text with a dash behind the rendition", counter.replace('"-1080"', '"-1080-"'), "none "),
-        ("budget.text with five digits", budget.replace("length 8", "length 5"), "none 11111\n"),
-        ("the whole file of broken.text", "\n".join(statements("broken")), "none "),
-        ("budget.text with one automaton", budget.replace("accepting", "state").replace("regular serial odd", ""), "none 1\n"),
-    ]
-    for what, text, answer in changed:
+    if not statements("rule")[-1].startswith("regular "):
+        yield "the last line of rule.text is not its rule"
+    for what, text, answer in [*changed_texts(), *injective_texts()]:
         for solver in solvers:
             if not printed(solver, packing.pack(textform.read(what, text.encode()))).startswith(answer):
                 yield f"{what}: {solver.name} does not print {answer.splitlines()[0]}"
-    if not rule[-1].startswith("regular "):
-        yield "the last line of rule.text is not its rule"
 
 
 def document_faults(solvers):
