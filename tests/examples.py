@@ -172,6 +172,9 @@ def injective_texts():
         first = f"\nstring letter length 1 of {letters}\nstring other_letter length 1 of {letters}\n"
         differing = f"\nnumber place in {place}\nsub {part} letter place\nsub other_{part} other_letter place\nneq letter other_letter"
         yield f"injective.text, the {part} at place {place}", asked.replace("\n", first, 1) + differing, f"none {nodes}\n"
+    # The dash behind the shorter rendition stands where the longer one has a letter.
+    shorter = fixed.replace("string rendition length 3..5", "string rendition length 3").replace("other_rendition length 3..5", "other_rendition length 4, 5")
+    yield "injective.text, a rendition of length 3 and a longer one", shorter, "none 1\n"
 
 
 def changed_texts():
