@@ -9,8 +9,8 @@ use lib.Seq.{take-suc, take-all, drop-cons}
 use Rattle.model.specs.Lists.{from, upto}
 use Rattle.laws.proofs.ListLaws.{from-length, flatMap-append}
 use Rattle.model.specs.Listing.{decimal, field, line}
-use Rattle.listing.specs.Writing.{Room, Wrote}
-use Rattle.listing.proofs.WritingLaws.{wrote-append, wrote-none, room-first, room-rest}
+use Rattle.listing.specs.Writing.{Capacity, Wrote}
+use Rattle.listing.proofs.WritingLaws.{wrote-append, wrote-none, capacity-first, capacity-rest}
 
 -- ---- a line
 
@@ -19,30 +19,30 @@ line-parts : (w : List ℕ) (n : ℕ) (u : List ℕ) → line w (n ∷ u) ≡ w 
 unfolding line field flatMap
 line-parts w n u = ap (λ (t : List ℕ). w ++ t) (append-assoc (32 ∷ decimal n) (flatMap field u) (10 ∷ []))
 
-module _ {l : List ℕ} {i : ℕ} (w : List ℕ) (n : ℕ) (u : List ℕ) (r : Room l i (line w (n ∷ u))) where
-  parts-room : Room l i (w ++ ((32 ∷ decimal n) ++ (flatMap field u ++ (10 ∷ []))))
-  parts-room = rw (line-parts w n u) at r
+module _ {l : List ℕ} {i : ℕ} (w : List ℕ) (n : ℕ) (u : List ℕ) (r : Capacity l i (line w (n ∷ u))) where
+  parts-capacity : Capacity l i (w ++ ((32 ∷ decimal n) ++ (flatMap field u ++ (10 ∷ []))))
+  parts-capacity = rw (line-parts w n u) at r
 
-  pub first-room : Room l i w
-  first-room = room-first w ((32 ∷ decimal n) ++ (flatMap field u ++ (10 ∷ []))) parts-room
+  pub first-capacity : Capacity l i w
+  first-capacity = capacity-first w ((32 ∷ decimal n) ++ (flatMap field u ++ (10 ∷ []))) parts-capacity
 
   module _ {m₁ : List ℕ} {e₁ : ℕ} (a : Wrote l i w m₁ e₁) where
-    numbers-room : Room m₁ e₁ ((32 ∷ decimal n) ++ (flatMap field u ++ (10 ∷ [])))
-    numbers-room = room-rest a ((32 ∷ decimal n) ++ (flatMap field u ++ (10 ∷ []))) parts-room
+    numbers-capacity : Capacity m₁ e₁ ((32 ∷ decimal n) ++ (flatMap field u ++ (10 ∷ [])))
+    numbers-capacity = capacity-rest a ((32 ∷ decimal n) ++ (flatMap field u ++ (10 ∷ []))) parts-capacity
 
-    pub field-room : Room m₁ e₁ (32 ∷ decimal n)
-    field-room = room-first (32 ∷ decimal n) (flatMap field u ++ (10 ∷ [])) numbers-room
+    pub field-capacity : Capacity m₁ e₁ (32 ∷ decimal n)
+    field-capacity = capacity-first (32 ∷ decimal n) (flatMap field u ++ (10 ∷ [])) numbers-capacity
 
     module _ {m₂ : List ℕ} {e₂ : ℕ} (b : Wrote m₁ e₁ (32 ∷ decimal n) m₂ e₂) where
-      rest-room : Room m₂ e₂ (flatMap field u ++ (10 ∷ []))
-      rest-room = room-rest b (flatMap field u ++ (10 ∷ [])) numbers-room
+      rest-capacity : Capacity m₂ e₂ (flatMap field u ++ (10 ∷ []))
+      rest-capacity = capacity-rest b (flatMap field u ++ (10 ∷ [])) numbers-capacity
 
-      pub fields-room : Room m₂ e₂ (flatMap field u)
-      fields-room = room-first (flatMap field u) (10 ∷ []) rest-room
+      pub fields-capacity : Capacity m₂ e₂ (flatMap field u)
+      fields-capacity = capacity-first (flatMap field u) (10 ∷ []) rest-capacity
 
       module _ {m₃ : List ℕ} {e₃ : ℕ} (d : Wrote m₂ e₂ (flatMap field u) m₃ e₃) where
-        pub newline-room : Room m₃ e₃ (10 ∷ [])
-        newline-room = room-rest d (10 ∷ []) rest-room
+        pub newline-capacity : Capacity m₃ e₃ (10 ∷ [])
+        newline-capacity = capacity-rest d (10 ∷ []) rest-capacity
 
         pub line-wrote : {m₄ : List ℕ} {e₄ : ℕ} → Wrote m₃ e₃ (10 ∷ []) m₄ e₄ → Wrote l i (line w (n ∷ u)) m₄ e₄
         line-wrote z = rw (line-parts w n u) (wrote-append a (wrote-append b (wrote-append d z)))
@@ -68,8 +68,8 @@ module _ (f : ℕ → List ℕ) (xs : List ℕ) {l : List ℕ} {i : ℕ} where
     unfolding flatMap
     next = ap (flatMap f) (take-suc xs j 0 h) ∙ flatMap-append f (take j xs) (getD xs j 0 ∷ []) ∙ ap (λ (t : List ℕ). flatMap f (take j xs) ++ t) (append-nil (f (getD xs j 0)))
 
-    pub each-room : Room l i (flatMap f xs) → Room m e (f (getD xs j 0))
-    each-room r = room-first (f (getD xs j 0)) (flatMap f (drop (suc j) xs)) (room-rest w (f (getD xs j 0) ++ flatMap f (drop (suc j) xs)) (rw split at r))
+    pub each-capacity : Capacity l i (flatMap f xs) → Capacity m e (f (getD xs j 0))
+    each-capacity r = capacity-first (f (getD xs j 0)) (flatMap f (drop (suc j) xs)) (capacity-rest w (f (getD xs j 0) ++ flatMap f (drop (suc j) xs)) (rw split at r))
 
     pub each-step : {z : List ℕ} {g : ℕ} → Wrote m e (f (getD xs j 0)) z g → Wrote l i (flatMap f (take (j + 1) xs)) z g
     each-step v = rw (add-one j, next) (wrote-append w v)
@@ -98,8 +98,8 @@ module _ (f : ℕ → List ℕ) (n : ℕ) {l : List ℕ} {i : ℕ} where
     inside : j < length (upto n)
     inside = rw (upto-length n) h
 
-    pub count-room : Room l i (flatMap f (upto n)) → Room m e (f j)
-    count-room r = rw (upto-at n j h) at (each-room f (upto n) j inside w r)
+    pub count-capacity : Capacity l i (flatMap f (upto n)) → Capacity m e (f j)
+    count-capacity r = rw (upto-at n j h) at (each-capacity f (upto n) j inside w r)
 
     pub count-step : {z : List ℕ} {g : ℕ} → Wrote m e (f j) z g → Wrote l i (flatMap f (take (j + 1) (upto n))) z g
     count-step v = each-step f (upto n) j inside w (rw (upto-at n j h) v)

@@ -9,8 +9,8 @@ use lib.Dec.{ltb}
 use lib.ListN.{length, set, length-append}
 use borrow.Author.Tests.{ltb-true, ltb-false, lt-ltb, le-ltb}
 use Rattle.model.specs.Listing.{digit, decimalIn, decimal}
-use Rattle.listing.specs.Writing.{Room, Wrote}
-use Rattle.listing.proofs.WritingLaws.{wrote-append, wrote-byte, room-first, room-rest}
+use Rattle.listing.specs.Writing.{Capacity, Wrote}
+use Rattle.listing.proofs.WritingLaws.{wrote-append, wrote-byte, capacity-first, capacity-rest}
 
 -- any number above n is enough digits for n
 enough : (f g n : ℕ) → n < f → n < g → decimalIn f n ≡ decimalIn g n
@@ -64,12 +64,12 @@ pub short-numeral : (l : List ℕ) (i n : ℕ) → n < 10 → Wrote l i (decimal
 short-numeral l i n h = rw (decimal-small n h) (wrote-byte l i (48 + n))
 
 module _ {l : List ℕ} {i : ℕ} (n : ℕ) (h : 10 ≤ n) where
-  pub tenth-room : Room l i (decimal n) → Room l i (decimal (n / 10))
-  tenth-room r = room-first (decimal (n / 10)) (digit (n % 10) ∷ []) (rw (decimal-large n h) at r)
+  pub tenth-capacity : Capacity l i (decimal n) → Capacity l i (decimal (n / 10))
+  tenth-capacity r = capacity-first (decimal (n / 10)) (digit (n % 10) ∷ []) (rw (decimal-large n h) at r)
 
   module _ {m : List ℕ} {e : ℕ} (w : Wrote l i (decimal (n / 10)) m e) where
     pub long-numeral : Wrote l i (decimal n) (set m e (48 + n % 10)) (e + 1)
     long-numeral = rw (decimal-large n h) (wrote-append w (wrote-byte m e (48 + n % 10)))
 
-    pub digit-room : Room l i (decimal n) → e < length m
-    digit-room r = let f = room-rest w (digit (n % 10) ∷ []) (rw (decimal-large n h) at r) .fits in omega arith
+    pub digit-capacity : Capacity l i (decimal n) → e < length m
+    digit-capacity r = let f = capacity-rest w (digit (n % 10) ∷ []) (rw (decimal-large n h) at r) .fits in omega arith

@@ -14,8 +14,8 @@ use Rattle.cobleskeg.specs.declared.Header.{Header}
 use Rattle.cobleskeg.specs.declared.ReadAnswer.{ReadAnswer}
 use Rattle.cobleskeg.specs.declared.ReadAnswer.the-variants.{Refused, Counts}
 use Rattle.cobleskeg.specs.Answers.{headerOf, readReply}
-use Rattle.model.specs.Listing.{refusedWord, line, replyLines, searchLines, listing}
-use Rattle.listing.specs.Writing.{Room, Wrote, printed}
+use Rattle.model.specs.Listing.{refusedBytes, line, replyLines, searchLines, listing}
+use Rattle.listing.specs.Writing.{Capacity, Wrote, printed}
 use Rattle.listing.specs.TableLines.{Counted, Lent}
 use Rattle.listing.proofs.WritingLaws.{written-whole}
 use Rattle.listing.proofs.SearchedLaws.{reading-range}
@@ -23,7 +23,7 @@ use Rattle.listing.proofs.SearchedLaws.{reading-range}
 -- ---- the listing by what Read answered
 
 -- "An input longer than the largest file prints `refused 4`, whatever its end holds"
-pub longer-listing : (input : List ℕ) → 25024 < length input → listing input ≡ line refusedWord (4 ∷ [])
+pub longer-listing : (input : List ℕ) → 25024 < length input → listing input ≡ line refusedBytes (4 ∷ [])
 unfolding listing replyLines require
 longer-listing input h = rw (lt-leb (length input) 25024 h)
 
@@ -37,7 +37,7 @@ read-refused (refused m) n e = let same : n ≡ m = cc in ap refused (sym same)
 read-refused (answered a) n e = absurd (refused≢answered e)
 
 pub refused-listing : (input : List ℕ) → length input ≤ 25024 → (r : ReadAnswer) → readReply r ≡ model.read (reading input) → (n : ℕ) → r ≡ Refused n
-    → listing input ≡ line refusedWord (n ∷ [])
+    → listing input ≡ line refusedBytes (n ∷ [])
 unfolding readReply replyLines searchLines andThen
 refused-listing input h r e n q =
     file-listing input h ∙ ap (λ (t : Reading). replyLines (searchLines t)) (read-refused (reading input) n (ap readReply (sym q) ∙ e))
@@ -91,11 +91,11 @@ printed-whole : (input lines : List ℕ) → 3260 ≤ length lines → printed i
 unfolding printed
 printed-whole input lines h = rw (le-leb 3260 (length lines) h)
 
-pub printed-after : (input lines : List ℕ) → 3260 ≤ length lines → (after : List ℕ) (r : ℕ) → Room lines 0 (listing input) → Wrote lines 0 (listing input) after r
+pub printed-after : (input lines : List ℕ) → 3260 ≤ length lines → (after : List ℕ) (r : ℕ) → Capacity lines 0 (listing input) → Wrote lines 0 (listing input) after r
     → (after ≡ printed input lines ++ drop (length (printed input lines)) lines) × (r ≡ length (printed input lines))
-printed-after input lines h after r room w =
-    let fits = room .fits in
-    rw (printed-whole input lines h) (w .buffer ∙ written-whole (listing input) lines (omega arith), (let p = w .place in omega arith))
+printed-after input lines h after r capacity w =
+    let fits = capacity .fits in
+    rw (printed-whole input lines h) (w .buffer ∙ written-whole (listing input) lines (omega arith), (let p = w .index in omega arith))
 
 -- for a caller: what is answered counts bytes of the buffer
 pub answer-within : (input lines after : List ℕ) (r : ℕ) → after ≡ printed input lines ++ drop (length (printed input lines)) lines → r ≡ length (printed input lines)

@@ -25,8 +25,8 @@ use Rattle.cobleskeg.specs.declared.SearchAnswer.{SearchAnswer}
 use Rattle.cobleskeg.specs.declared.SearchAnswer.the-variants.{Refused, Found, None, Spent}
 use Rattle.cobleskeg.specs.Answers.{searchReply}
 use Rattle.cobleskeg.specs.Claims.{SearchHolds}
-use Rattle.model.specs.Listing.{foundWord, noneWord, spentWord, line, solutionLines, outcomeLines, replyLines, searchLines}
-use Rattle.listing.specs.Writing.{Room}
+use Rattle.model.specs.Listing.{foundBytes, noneBytes, spentBytes, line, solutionLines, outcomeLines, replyLines, searchLines}
+use Rattle.listing.specs.Writing.{Capacity}
 use Rattle.listing.specs.TableLines.{tableLines, Lengths, Lent}
 use Rattle.listing.proofs.NumeralLaws.{decimal-length}
 use Rattle.listing.proofs.LengthLaws.{ending-most, choice-most}
@@ -78,9 +78,9 @@ module _ (budget : ℕ) (A : List ℕ) where
       go none f = miss-within (length (nodes P F)) n f
       go (some N) f = hit-within N n f
 
--- the first line has a place
-pub ending-room : (w : List ℕ) (n : ℕ) (lines : List ℕ) → 3260 ≤ length lines → length w ≤ 7 → n < 4294967296 → Room lines 0 (line w (n ∷ []))
-ending-room w n lines h k l = record { fits = let m = ending-most w 9 n (decimal-length 9 n (omega arith)) in omega arith }
+-- the first line fits
+pub ending-capacity : (w : List ℕ) (n : ℕ) (lines : List ℕ) → 3260 ≤ length lines → length w ≤ 7 → n < 4294967296 → Capacity lines 0 (line w (n ∷ []))
+ending-capacity w n lines h k l = record { fits = let m = ending-most w 9 n (decimal-length 9 n (omega arith)) in omega arith }
 
 -- the search that the program makes
 abbrev searched : Accepted → Search
@@ -99,8 +99,8 @@ module _ (P : Problem) (F : List ℕ) (α : Choice) (fits : Fits P F α) (s : �
   own-lines : solutionLines P U ≡ tableLines s U
   own-lines = ap (solutionLines P) own ∙ solution-lines P F α fits ∙ sym (table-lines P F α fits) ∙ sym (ap₂ tableLines same own)
 
-  own-room : P .strings ≤ 16 → P .numbers ≤ 16 → (first lines : List ℕ) → length first ≤ 12 → 3260 ≤ length lines → Room lines 0 (first ++ tableLines s U)
-  own-room h k first lines l bytes = record {
+  own-capacity : P .strings ≤ 16 → P .numbers ≤ 16 → (first lines : List ℕ) → length first ≤ 12 → 3260 ≤ length lines → Capacity lines 0 (first ++ tableLines s U)
+  own-capacity h k first lines l bytes = record {
     fits =
         let rest = choice-most P F α fits h k in
         let e = ap length (ap₂ tableLines same own ∙ table-lines P F α fits) in
@@ -134,34 +134,34 @@ module _ (file : List ℕ) (s : ℕ) (R A lines : List ℕ) (lent : Lent file s 
       let w : o ≡ searched (lent .file-holds) .outcome = ap (λ (z : Searched). z .outcome) same ∙ replied .2 in
       (lines-searched file (lent .file-holds) (lent .reads) ∙ sym (ap₂ (outcomeLines (lent .file-holds .problem)) t w), sym w)
 
-  pub none-lines : (n : ℕ) → r ≡ None n → replyLines (searchLines (reading file)) ≡ line noneWord (n ∷ [])
+  pub none-lines : (n : ℕ) → r ≡ None n → replyLines (searchLines (reading file)) ≡ line noneBytes (n ∷ [])
   unfolding searchReply outcomeLines
   none-lines n q = ended (tree.none n) (ap (searchReply R′ U) q) .0
 
-  pub spent-lines : (n : ℕ) → r ≡ Spent n → replyLines (searchLines (reading file)) ≡ line spentWord (n ∷ [])
+  pub spent-lines : (n : ℕ) → r ≡ Spent n → replyLines (searchLines (reading file)) ≡ line spentBytes (n ∷ [])
   unfolding searchReply outcomeLines
   spent-lines n q = ended (tree.spent n) (ap (searchReply R′ U) q) .0
 
   module _ (holds : SearchHolds file 65536 R A r U) (n : ℕ) (q : r ≡ Found n) where
-    found-ended : (replyLines (searchLines (reading file)) ≡ line foundWord (n ∷ []) ++ solutionLines (lent .file-holds .problem) U)
+    found-ended : (replyLines (searchLines (reading file)) ≡ line foundBytes (n ∷ []) ++ solutionLines (lent .file-holds .problem) U)
         × (searched (lent .file-holds) .outcome ≡ tree.found n)
     unfolding searchReply outcomeLines
     found-ended = ended (tree.found n) (ap (searchReply R′ U) q)
 
-    pub found-lines : replyLines (searchLines (reading file)) ≡ line foundWord (n ∷ []) ++ tableLines s U
+    pub found-lines : replyLines (searchLines (reading file)) ≡ line foundBytes (n ∷ []) ++ tableLines s U
     found-lines =
         let a = lent .file-holds in
         let t = holds .first a (lent .reads) n q in
-        found-ended .0 ∙ ap (λ (l : List ℕ). line foundWord (n ∷ []) ++ l) (own-lines (a .problem) (a .table) (t .0) (t .1 .solution .fits) s (lent .strings) U (t .2))
+        found-ended .0 ∙ ap (λ (l : List ℕ). line foundBytes (n ∷ []) ++ l) (own-lines (a .problem) (a .table) (t .0) (t .1 .solution .fits) s (lent .strings) U (t .2))
 
-    pub found-room : Room lines 0 (line foundWord (n ∷ []) ++ tableLines s U)
-    found-room =
+    pub found-capacity : Capacity lines 0 (line foundBytes (n ∷ []) ++ tableLines s U)
+    found-capacity =
         let a = lent .file-holds in
         let t = holds .first a (lent .reads) n q in
         let range = reading-range file a (lent .reads) in
         let count = found-within 65536 (replicate (width (a .problem)) 0) (a .problem) (a .table) n (found-ended .1) in
-        let first = ending-most foundWord 4 n (decimal-length 4 n (omega arith)) in
-        own-room (a .problem) (a .table) (t .0) (t .1 .solution .fits) s (lent .strings) U (t .2) (range .0) (range .1) (line foundWord (n ∷ [])) lines (omega arith) (lent .lines-bytes)
+        let first = ending-most foundBytes 4 n (decimal-length 4 n (omega arith)) in
+        own-capacity (a .problem) (a .table) (t .0) (t .1 .solution .fits) s (lent .strings) U (t .2) (range .0) (range .1) (line foundBytes (n ∷ [])) lines (omega arith) (lent .lines-bytes)
 
     pub found-ready : (64 * s ≤ length U) × Lengths U s
     found-ready =

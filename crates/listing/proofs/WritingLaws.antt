@@ -6,7 +6,7 @@ use native.Mathlib.Omega.{arith}
 use native.Mathlib.Numerals.{add-one}
 use lib.ListN.{length, getD, set, take, drop, length-append}
 use lib.Seq.{sets, length-sets, sets-eq, take-suc, take-all}
-use Rattle.listing.specs.Writing.{written, Room, Wrote}
+use Rattle.listing.specs.Writing.{written, Capacity, Wrote}
 
 pub written-append : (t u l : List ℕ) (i : ℕ) → written l i (t ++ u) ≡ written (written l i t) (i + length t) u
 unfolding written
@@ -26,29 +26,29 @@ module _ {l m : List ℕ} {i e : ℕ} {t : List ℕ} (w : Wrote l i t m e) where
 
   pub wrote-append : {u a : List ℕ} {z : ℕ} → Wrote m e u a z → Wrote l i (t ++ u) a z
   wrote-append {u} {a} {z} v = record {
-    buffer = v .buffer ∙ ap (λ (k : List ℕ). written k e u) (w .buffer) ∙ ap (λ (k : ℕ). written (written l i t) k u) (w .place) ∙ sym (written-append t u l i);
-    place = let p = w .place in let q = v .place in omega (arith, length-append t u);
+    buffer = v .buffer ∙ ap (λ (k : List ℕ). written k e u) (w .buffer) ∙ ap (λ (k : ℕ). written (written l i t) k u) (w .index) ∙ sym (written-append t u l i);
+    index = let p = w .index in let q = v .index in omega (arith, length-append t u);
   }
 
-  pub room-rest : (u : List ℕ) → Room l i (t ++ u) → Room m e u
-  room-rest u r = record { fits = let f = r .fits in let p = w .place in omega (arith, length-append t u, wrote-length) }
+  pub capacity-rest : (u : List ℕ) → Capacity l i (t ++ u) → Capacity m e u
+  capacity-rest u r = record { fits = let f = r .fits in let p = w .index in omega (arith, length-append t u, wrote-length) }
 
-pub room-first : {l : List ℕ} {i : ℕ} (t u : List ℕ) → Room l i (t ++ u) → Room l i t
-room-first t u r = record { fits = let f = r .fits in omega (arith, length-append t u) }
+pub capacity-first : {l : List ℕ} {i : ℕ} (t u : List ℕ) → Capacity l i (t ++ u) → Capacity l i t
+capacity-first t u r = record { fits = let f = r .fits in omega (arith, length-append t u) }
 
 pub wrote-none : (l : List ℕ) (i : ℕ) → Wrote l i [] l i
 unfolding written
-wrote-none l i = record { buffer = refl; place = omega arith }
+wrote-none l i = record { buffer = refl; index = omega arith }
 
 pub wrote-byte : (l : List ℕ) (i b : ℕ) → Wrote l i (b ∷ []) (set l i b) (i + 1)
 unfolding written
-wrote-byte l i b = record { buffer = refl; place = refl }
+wrote-byte l i b = record { buffer = refl; index = refl }
 
 -- ---- a list of bytes, one at a time
 
 pub put-start : (l : List ℕ) (i : ℕ) → Wrote l i [] l (i + 0)
 unfolding written
-put-start l i = record { buffer = refl; place = refl }
+put-start l i = record { buffer = refl; index = refl }
 
 module _ {l m : List ℕ} {i : ℕ} (bytes : List ℕ) {j : ℕ} (w : Wrote l i (take j bytes) m (i + j)) where
   pub put-step : j < length bytes → Wrote l i (take (j + 1) bytes) (set m (i + j) (getD bytes j 0)) (i + (j + 1))

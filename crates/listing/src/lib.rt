@@ -7,7 +7,7 @@ ghost use Prim.Native.Nat.{_+_, _*_, _≤_, _<_};
 ghost use lib.ListN.{length, getD, drop};
 ghost use Rattle.model.specs.Reading.{reading};
 ghost use Rattle.model.specs.Listing.{decimal, field, line, stringLine, numberLine, replyLines, searchLines, listing};
-ghost use Rattle.listing.specs.Writing.{Room, Wrote, printed};
+ghost use Rattle.listing.specs.Writing.{Capacity, Wrote, printed};
 ghost use Rattle.listing.specs.TableLines.{onlyValue, textOf, rowLines, wordLines, tableLines, Lengths, Counted, Lent};
 
 // The bytes of the largest file.
@@ -22,7 +22,7 @@ pub const LONGEST: usize = 3260;
 
 // Writes these bytes from index `at` on, and answers the index behind them; so do the functions that follow.
 fn put(bytes: &[u8], lines: &mut [u8], at: usize) -> usize
-    requires { ⌜ Room (now lines) at (now bytes) ⌝ }
+    requires { ⌜ Capacity (now lines) at (now bytes) ⌝ }
     ensures { λ r. ⌜ Wrote (now (lines .entry)) at (now (bytes .entry)) (now (lines .exit)) r ⌝ }
 {
     for i in 0..bytes.len() {
@@ -33,7 +33,7 @@ fn put(bytes: &[u8], lines: &mut [u8], at: usize) -> usize
 
 // A number in decimal: the numeral of its tenth part, and then its last digit.
 fn numeral(n: usize, lines: &mut [u8], at: usize) -> usize
-    requires { ⌜ Room (now lines) at (decimal n) ⌝ }
+    requires { ⌜ Capacity (now lines) at (decimal n) ⌝ }
     ensures { λ r. ⌜ Wrote (now (lines .entry)) at (decimal n) (now (lines .exit)) r ⌝ }
 {
     if n < 10 {
@@ -47,7 +47,7 @@ fn numeral(n: usize, lines: &mut [u8], at: usize) -> usize
 
 // A number directly behind a byte: the letter that it is the position of, or the space before its field.
 fn marked(mark: u8, n: usize, lines: &mut [u8], at: usize) -> usize
-    requires { ⌜ Room (now lines) at (mark ∷ decimal n) ⌝ }
+    requires { ⌜ Capacity (now lines) at (mark ∷ decimal n) ⌝ }
     ensures { λ r. ⌜ Wrote (now (lines .entry)) at (mark ∷ decimal n) (now (lines .exit)) r ⌝ }
 {
     lines[at] = mark;
@@ -56,7 +56,7 @@ fn marked(mark: u8, n: usize, lines: &mut [u8], at: usize) -> usize
 
 // The newline that ends a line.
 fn newline(lines: &mut [u8], at: usize) -> usize
-    requires { ⌜ Room (now lines) at (10 ∷ []) ⌝ }
+    requires { ⌜ Capacity (now lines) at (10 ∷ []) ⌝ }
     ensures { λ r. ⌜ Wrote (now (lines .entry)) at (10 ∷ []) (now (lines .exit)) r ⌝ }
 {
     lines[at] = b'\n';
@@ -64,11 +64,11 @@ fn newline(lines: &mut [u8], at: usize) -> usize
 }
 
 // The first line: how it ended, with the count of nodes or the number of the refusal.
-fn ending(word: &[u8], n: usize, lines: &mut [u8]) -> usize
-    requires { ⌜ Room (now lines) 0 (line (now word) (n ∷ [])) ⌝ }
-    ensures { λ r. ⌜ Wrote (now (lines .entry)) 0 (line (now (word .entry)) (n ∷ [])) (now (lines .exit)) r ⌝ }
+fn ending(name: &[u8], n: usize, lines: &mut [u8]) -> usize
+    requires { ⌜ Capacity (now lines) 0 (line (now name) (n ∷ [])) ⌝ }
+    ensures { λ r. ⌜ Wrote (now (lines .entry)) 0 (line (now (name .entry)) (n ∷ [])) (now (lines .exit)) r ⌝ }
 {
-    let behind = put(word, lines, 0);
+    let behind = put(name, lines, 0);
     let end = marked(b' ', n, lines, behind);
     newline(lines, end)
 }
@@ -82,7 +82,7 @@ fn value(domain: u64) -> usize
 
 // A field for the value of each domain.
 fn values(domains: &[u64], lines: &mut [u8], at: usize) -> usize
-    requires { ⌜ Room (now lines) at (flatMap field (map onlyValue (now domains))) ⌝ }
+    requires { ⌜ Capacity (now lines) at (flatMap field (map onlyValue (now domains))) ⌝ }
     ensures { λ r. ⌜ Wrote (now (lines .entry)) at (flatMap field (map onlyValue (now (domains .entry)))) (now (lines .exit)) r ⌝ }
 {
     let mut end = at;
@@ -94,7 +94,7 @@ fn values(domains: &[u64], lines: &mut [u8], at: usize) -> usize
 
 // The line of string x: its length, and the symbols at its places.
 fn string_line(x: usize, row: &[u64], lines: &mut [u8], at: usize) -> usize
-    requires { ⌜ (length (now row) ≡ 64) × (onlyValue (getD (now row) 0 0) < 64) × Room (now lines) at (stringLine x (textOf (now row))) ⌝ }
+    requires { ⌜ (length (now row) ≡ 64) × (onlyValue (getD (now row) 0 0) < 64) × Capacity (now lines) at (stringLine x (textOf (now row))) ⌝ }
     ensures { λ r. ⌜ Wrote (now (lines .entry)) at (stringLine x (textOf (now (row .entry)))) (now (lines .exit)) r ⌝ }
 {
     let n = value(row[0]);
@@ -106,7 +106,7 @@ fn string_line(x: usize, row: &[u64], lines: &mut [u8], at: usize) -> usize
 
 // The line of number x.
 fn number_line(x: usize, word: u64, lines: &mut [u8], at: usize) -> usize
-    requires { ⌜ Room (now lines) at (numberLine x (onlyValue word)) ⌝ }
+    requires { ⌜ Capacity (now lines) at (numberLine x (onlyValue word)) ⌝ }
     ensures { λ r. ⌜ Wrote (now (lines .entry)) at (numberLine x (onlyValue word)) (now (lines .exit)) r ⌝ }
 {
     let position = marked(b'n', x, lines, at);
@@ -116,7 +116,7 @@ fn number_line(x: usize, word: u64, lines: &mut [u8], at: usize) -> usize
 
 // The lines of all strings.
 fn string_lines(table: &[u64], s: usize, lines: &mut [u8], at: usize) -> usize
-    requires { ⌜ (64 * s ≤ length (now table)) × Lengths (now table) s × Room (now lines) at (rowLines (now table) s) ⌝ }
+    requires { ⌜ (64 * s ≤ length (now table)) × Lengths (now table) s × Capacity (now lines) at (rowLines (now table) s) ⌝ }
     ensures { λ r. ⌜ Wrote (now (lines .entry)) at (rowLines (now (table .entry)) s) (now (lines .exit)) r ⌝ }
 {
     let mut end = at;
@@ -129,7 +129,7 @@ fn string_lines(table: &[u64], s: usize, lines: &mut [u8], at: usize) -> usize
 
 // The lines of all numbers.
 fn number_lines(words: &[u64], lines: &mut [u8], at: usize) -> usize
-    requires { ⌜ Room (now lines) at (wordLines (now words) (length (now words))) ⌝ }
+    requires { ⌜ Capacity (now lines) at (wordLines (now words) (length (now words))) ⌝ }
     ensures { λ r. ⌜ Wrote (now (lines .entry)) at (wordLines (now (words .entry)) (length (now (words .entry)))) (now (lines .exit)) r ⌝ }
 {
     let mut end = at;
@@ -141,7 +141,7 @@ fn number_lines(words: &[u64], lines: &mut [u8], at: usize) -> usize
 
 // The lines of a solution's own table.
 fn solution(table: &[u64], s: usize, lines: &mut [u8], at: usize) -> usize
-    requires { ⌜ (64 * s ≤ length (now table)) × Lengths (now table) s × Room (now lines) at (tableLines s (now table)) ⌝ }
+    requires { ⌜ (64 * s ≤ length (now table)) × Lengths (now table) s × Capacity (now lines) at (tableLines s (now table)) ⌝ }
     ensures { λ r. ⌜ Wrote (now (lines .entry)) at (tableLines s (now (table .entry))) (now (lines .exit)) r ⌝ }
 {
     let end = string_lines(table, s, lines, at);
@@ -152,7 +152,7 @@ fn solution(table: &[u64], s: usize, lines: &mut [u8], at: usize) -> usize
 // Searches a file of s strings, with this room and this answer table.
 fn outcome(file: &[u8], s: usize, room: &mut [u64], table: &mut [u64], lines: &mut [u8]) -> usize
     requires { ⌜ Lent (now file) s (now room) (now table) (now lines) ⌝ }
-    ensures { λ r. ⌜ Room (now (lines .entry)) 0 (replyLines (searchLines (reading (now (file .entry)))))
+    ensures { λ r. ⌜ Capacity (now (lines .entry)) 0 (replyLines (searchLines (reading (now (file .entry)))))
         × Wrote (now (lines .entry)) 0 (replyLines (searchLines (reading (now (file .entry))))) (now (lines .exit)) r ⌝ }
 {
     match cobleskeg::search(file, BUDGET, room, table) {
@@ -169,7 +169,7 @@ fn outcome(file: &[u8], s: usize, room: &mut [u64], table: &mut [u64], lines: &m
 // Has room and a table for the largest file; the first words of the table are the answer table of s strings and t numbers.
 fn lend(file: &[u8], s: usize, t: usize, lines: &mut [u8]) -> usize
     requires { ⌜ Counted (now file) s t × (3260 ≤ length (now lines)) ⌝ }
-    ensures { λ r. ⌜ Room (now (lines .entry)) 0 (replyLines (searchLines (reading (now (file .entry)))))
+    ensures { λ r. ⌜ Capacity (now (lines .entry)) 0 (replyLines (searchLines (reading (now (file .entry)))))
         × Wrote (now (lines .entry)) 0 (replyLines (searchLines (reading (now (file .entry))))) (now (lines .exit)) r ⌝ }
 {
     let mut room = [0u64; 3120];
@@ -181,7 +181,7 @@ fn lend(file: &[u8], s: usize, t: usize, lines: &mut [u8]) -> usize
 // The listing of an input.
 fn report(input: &[u8], lines: &mut [u8]) -> usize
     requires { ⌜ 3260 ≤ length (now lines) ⌝ }
-    ensures { λ r. ⌜ Room (now (lines .entry)) 0 (listing (now (input .entry))) × Wrote (now (lines .entry)) 0 (listing (now (input .entry))) (now (lines .exit)) r ⌝ }
+    ensures { λ r. ⌜ Capacity (now (lines .entry)) 0 (listing (now (input .entry))) × Wrote (now (lines .entry)) 0 (listing (now (input .entry))) (now (lines .exit)) r ⌝ }
 {
     if input.len() > LARGEST {
         return ending(b"refused", 4, lines);

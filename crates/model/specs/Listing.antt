@@ -56,27 +56,27 @@ solutionLines P T =
 -- ---- how it ended
 
 -- `found`, `none`, `spent`, `refused`
-abbrev pub foundWord : List ℕ
-foundWord = 102 ∷ 111 ∷ 117 ∷ 110 ∷ 100 ∷ []
+abbrev pub foundBytes : List ℕ
+foundBytes = 102 ∷ 111 ∷ 117 ∷ 110 ∷ 100 ∷ []
 
-abbrev pub noneWord : List ℕ
-noneWord = 110 ∷ 111 ∷ 110 ∷ 101 ∷ []
+abbrev pub noneBytes : List ℕ
+noneBytes = 110 ∷ 111 ∷ 110 ∷ 101 ∷ []
 
-abbrev pub spentWord : List ℕ
-spentWord = 115 ∷ 112 ∷ 101 ∷ 110 ∷ 116 ∷ []
+abbrev pub spentBytes : List ℕ
+spentBytes = 115 ∷ 112 ∷ 101 ∷ 110 ∷ 116 ∷ []
 
-abbrev pub refusedWord : List ℕ
-refusedWord = 114 ∷ 101 ∷ 102 ∷ 117 ∷ 115 ∷ 101 ∷ 100 ∷ []
+abbrev pub refusedBytes : List ℕ
+refusedBytes = 114 ∷ 101 ∷ 102 ∷ 117 ∷ 115 ∷ 101 ∷ 100 ∷ []
 
 -- "It prints `found`, `none`, `spent` … and the count"; "After `found` it prints" the solution
 unfoldable pub outcomeLines : Problem → List ℕ → Outcome → List ℕ
-outcomeLines P T (found n) = line foundWord (n ∷ []) ++ solutionLines P T
-outcomeLines P T (none n) = line noneWord (n ∷ [])
-outcomeLines P T (spent n) = line spentWord (n ∷ [])
+outcomeLines P T (found n) = line foundBytes (n ∷ []) ++ solutionLines P T
+outcomeLines P T (none n) = line noneBytes (n ∷ [])
+outcomeLines P T (spent n) = line spentBytes (n ∷ [])
 
 -- "It prints … `refused` and the … refusal number"
 unfoldable pub replyLines : Reply (List ℕ) → List ℕ
-replyLines (refused n) = line refusedWord (n ∷ [])
+replyLines (refused n) = line refusedBytes (n ∷ [])
 replyLines (answered text) = text
 
 -- ---- the program

@@ -1,6 +1,6 @@
 use native.Mathlib.Omega.{arith}
 use Prim.Native.Nat.{_≤_}
-use Rattle.listing.proofs.NumeralLaws.{decimal-some, short-numeral, tenth-room, long-numeral, digit-room}
+use Rattle.listing.proofs.NumeralLaws.{decimal-some, short-numeral, tenth-capacity, long-numeral, digit-capacity}
 use borrow.Author.Needs.{needs}
 use Prim.Native.Nat.{ℕ, _<_}
 use borrow.Fn.Kinds.{In}
@@ -57,7 +57,7 @@ numeral-numeral-requires : (t : ℕ) → numeral-lts.Need-numeral-requires (
 numeral-numeral-requires t c κs =
     let s = c .before .before .before in
     let h : 10 ≤ s .args .n = omega arith in
-    (search needs, tenth-room (s .args .n) h (s .pre .1))
+    (search needs, tenth-capacity (s .args .n) h (s .pre .1))
 
 numeral-add-lines-2 :
     (t : ℕ) →
@@ -76,7 +76,7 @@ numeral-slice-write-lines-2 : (t : ℕ) → numeral-lts.Need-slice-write-lines-2
 numeral-slice-write-lines-2 t c =
     let s = c .before .before .before .before .before .before in
     let h : 10 ≤ s .args .n = omega arith in
-    digit-room (s .args .n) h (c .before .before .numeral .ensures) (s .pre .1)
+    digit-capacity (s .args .n) h (c .before .before .numeral .ensures) (s .pre .1)
 
 numeral-add-result-2 :
     (t : ℕ) →
@@ -84,7 +84,7 @@ numeral-add-result-2 :
 numeral-add-result-2 t c =
     let s = c .before .before .before .before .before .before in
     let h : 10 ≤ s .args .n = omega arith in
-    let k = digit-room (s .args .n) h (c .before .before .numeral .ensures) (s .pre .1) in
+    let k = digit-capacity (s .args .n) h (c .before .before .numeral .ensures) (s .pre .1) in
     search needs
 
 numeral-same-length-2 :

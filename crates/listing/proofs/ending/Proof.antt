@@ -1,4 +1,4 @@
-use Rattle.listing.proofs.LineLaws.{first-room, field-room, newline-room, line-wrote, no-fields}
+use Rattle.listing.proofs.LineLaws.{first-capacity, field-capacity, newline-capacity, line-wrote, no-fields}
 use borrow.Author.Needs.{needs}
 use Rattle.listing.proofs.ending.Statement.{statement}
 use Rattle.listing.proofs.ending.Tie as tie
@@ -9,18 +9,18 @@ use Rattle.listing.proofs.newline.Reads as newline-reads
 use Rattle.listing.proofs.put.Reads as put-reads
 
 put-requires : tie.Need-put-requires
-put-requires c κs = first-room _ _ _ (c .before .before .before .pre)
+put-requires c κs = first-capacity _ _ _ (c .before .before .before .pre)
 
 marked-requires : tie.Need-marked-requires
 marked-requires c κs =
     let behind = c .before .before .before in
-    field-room _ _ _ (behind .before .before .before .before .pre) (behind .put .ensures)
+    field-capacity _ _ _ (behind .before .before .before .before .pre) (behind .put .ensures)
 
 newline-requires : tie.Need-newline-requires
 newline-requires c κs =
     let end = c .before .before .before in
     let behind = end .before .before .before .before in
-    newline-room _ _ _ (behind .before .before .before .before .pre) (behind .put .ensures) (end .marked .ensures) (no-fields _ _)
+    newline-capacity _ _ _ (behind .before .before .before .before .pre) (behind .put .ensures) (end .marked .ensures) (no-fields _ _)
 
 same-length : tie.Need-same-length
 same-length c = search needs

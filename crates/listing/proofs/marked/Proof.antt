@@ -1,4 +1,4 @@
-use Rattle.listing.proofs.WritingLaws.{wrote-length, wrote-append, wrote-byte, room-rest}
+use Rattle.listing.proofs.WritingLaws.{wrote-length, wrote-append, wrote-byte, capacity-rest}
 use Rattle.model.specs.Listing.{decimal}
 use borrow.Author.Needs.{needs}
 use Rattle.listing.proofs.marked.Statement.{statement}
@@ -14,7 +14,7 @@ add-numeral : tie.Need-add-numeral
 add-numeral c = search needs
 
 numeral-requires : tie.Need-numeral-requires
-numeral-requires c κs = let s = c .before .before in room-rest (wrote-byte _ _ (s .args .mark)) (decimal (s .args .n)) (s .pre)
+numeral-requires c κs = let s = c .before .before in capacity-rest (wrote-byte _ _ (s .args .mark)) (decimal (s .args .n)) (s .pre)
 
 same-length : tie.Need-same-length
 same-length c =

@@ -1,4 +1,4 @@
-use Rattle.listing.proofs.LineLaws.{first-room, field-room, newline-room, line-wrote, no-fields}
+use Rattle.listing.proofs.LineLaws.{first-capacity, field-capacity, newline-capacity, line-wrote, no-fields}
 use Rattle.model.specs.Listing.{numberLine}
 use borrow.Author.Needs.{needs}
 use Rattle.listing.proofs.number_line.Statement.{statement}
@@ -11,7 +11,7 @@ use Rattle.listing.proofs.value.Reads as value-reads
 
 marked-requires : tie.Need-marked-requires
 unfolding numberLine
-marked-requires c κs = first-room _ _ _ (c .before .before .pre)
+marked-requires c κs = first-capacity _ _ _ (c .before .before .pre)
 
 value-requires : tie.Need-value-requires
 value-requires c κs = search needs
@@ -20,7 +20,7 @@ marked-requires-2 : tie.Need-marked-requires-2
 unfolding numberLine
 marked-requires-2 c κs =
     let position = c .before .before .before .before in
-    rw (c .before .value .ensures) (field-room _ _ _ (position .before .before .before .pre) (position .marked .ensures))
+    rw (c .before .value .ensures) (field-capacity _ _ _ (position .before .before .before .pre) (position .marked .ensures))
 
 newline-requires : tie.Need-newline-requires
 unfolding numberLine
@@ -28,7 +28,7 @@ newline-requires c κs =
     let end = c .before .before .before in
     let position = end .before .before .before .before .before in
     let field = rw (end .before .before .value .ensures) at (end .marked2 .ensures) in
-    newline-room _ _ _ (position .before .before .before .pre) (position .marked .ensures) field (no-fields _ _)
+    newline-capacity _ _ _ (position .before .before .before .pre) (position .marked .ensures) field (no-fields _ _)
 
 same-length : tie.Need-same-length
 same-length c = search needs

@@ -2,7 +2,7 @@ use Prim.Native.Nat.{_-_, _≤_}
 use mathlib.Core.List.{flatMap}
 use lib.ListN.{length, getD, take}
 use native.Mathlib.Omega.{arith}
-use Rattle.listing.proofs.LineLaws.{each-start, count-room, count-step, count-end}
+use Rattle.listing.proofs.LineLaws.{each-start, count-capacity, count-step, count-end}
 use Rattle.listing.proofs.WritingLaws.{wrote-length}
 use Rattle.model.specs.Lists.{upto}
 use Rattle.model.specs.Listing.{numberLine}
@@ -37,7 +37,7 @@ unfolding wordLines
 number-line-requires c κs =
     let s = c .before .before .before .before .before .before in
     let k = c .before .before .before .loop in
-    count-room (λ x. numberLine x (onlyValue (getD (s .args .words .now) x 0))) (length (s .args .words .now)) (k .x) (omega arith) (k .inv .1) (s .pre)
+    count-capacity (λ x. numberLine x (onlyValue (getD (s .args .words .now) x 0))) (length (s .args .words .now)) (k .x) (omega arith) (k .inv .1) (s .pre)
 
 add-x : tie.Need-add-x Inv-loop μ-loop
 add-x c = search needs

@@ -1,8 +1,8 @@
 use mathlib.Core.List.{[], _∷_}
 use native.Mathlib.Omega.{arith}
-use Rattle.listing.proofs.WritingLaws.{wrote-append, room-first, room-rest}
-use Rattle.listing.proofs.SearchedLaws.{ending-room, never-refused, none-lines, spent-lines, found-lines, found-room, found-ready}
-use Rattle.model.specs.Listing.{foundWord, line}
+use Rattle.listing.proofs.WritingLaws.{wrote-append, capacity-first, capacity-rest}
+use Rattle.listing.proofs.SearchedLaws.{ending-capacity, never-refused, none-lines, spent-lines, found-lines, found-capacity, found-ready}
+use Rattle.model.specs.Listing.{foundBytes, line}
 use borrow.Author.Needs.{needs}
 use Rattle.listing.proofs.outcome.Statement.{statement}
 use Rattle.listing.proofs.outcome.Tie as tie
@@ -45,8 +45,8 @@ ending-requires-2 c κs =
     let told = c .before .before .before in
     let searched = told .before .before .before .before .before .before in
     let start = searched .before .before .before .before .before .before .before in
-    let room = found-room _ _ _ _ _ (start .pre) _ _ _ (searched .search .ensures .0) (searched .search .ensures .1 .1 .1) _ (told .n2 .given .1) in
-    room-first (line foundWord (told .n2 .given .0 .0 ∷ [])) _ room
+    let capacity = found-capacity _ _ _ _ _ (start .pre) _ _ _ (searched .search .ensures .0) (searched .search .ensures .1 .1 .1) _ (told .n2 .given .1) in
+    capacity-first (line foundBytes (told .n2 .given .0 .0 ∷ [])) _ capacity
 
 solution-requires : tie.Need-solution-requires
 solution-requires c κs =
@@ -54,8 +54,8 @@ solution-requires c κs =
     let searched = told .before .before .before .before .before .before in
     let start = searched .before .before .before .before .before .before .before in
     let ready = found-ready _ _ _ _ _ (start .pre) _ _ _ (searched .search .ensures .0) (searched .search .ensures .1 .1 .1) _ (told .n2 .given .1) in
-    let room = found-room _ _ _ _ _ (start .pre) _ _ _ (searched .search .ensures .0) (searched .search .ensures .1 .1 .1) _ (told .n2 .given .1) in
-    (ready .0, ready .1, room-rest (c .before .before .before .before .ending2 .ensures) _ room)
+    let capacity = found-capacity _ _ _ _ _ (start .pre) _ _ _ (searched .search .ensures .0) (searched .search .ensures .1 .1 .1) _ (told .n2 .given .1) in
+    (ready .0, ready .1, capacity-rest (c .before .before .before .before .ending2 .ensures) _ capacity)
 
 enum-known-n-3 : tie.Need-enum-known-n-3
 enum-known-n-3 c = search needs
@@ -68,7 +68,7 @@ cast-ending-3 c = search needs
 
 ending-requires-3 : tie.Need-ending-requires-3
 ending-requires-3 c κs =
-    ending-room _ _ _ (c .before .before .before .before .before .before .before .before .before .before .before .before .before .before .before .before .pre .lines-bytes) (omega arith) (omega arith)
+    ending-capacity _ _ _ (c .before .before .before .before .before .before .before .before .before .before .before .before .before .before .before .before .pre .lines-bytes) (omega arith) (omega arith)
 
 enum-known-n-4 : tie.Need-enum-known-n-4
 enum-known-n-4 c = search needs
@@ -81,7 +81,7 @@ cast-ending-4 c = search needs
 
 ending-requires-4 : tie.Need-ending-requires-4
 ending-requires-4 c κs =
-    ending-room _ _ _ (c .before .before .before .before .before .before .before .before .before .before .before .before .before .before .before .before .pre .lines-bytes) (omega arith) (omega arith)
+    ending-capacity _ _ _ (c .before .before .before .before .before .before .before .before .before .before .before .before .before .before .before .before .pre .lines-bytes) (omega arith) (omega arith)
 
 same-length : tie.Need-same-length
 same-length c = search needs
@@ -113,9 +113,9 @@ returns-2 c =
     let told = c .before .before .before .before .before .before .before .before .before .before .before in
     let searched = told .before .before .before .before .before .before in
     let start = searched .before .before .before .before .before .before .before in
-    let room = found-room _ _ _ _ _ (start .pre) _ _ _ (searched .search .ensures .0) (searched .search .ensures .1 .1 .1) _ (told .n2 .given .1) in
+    let capacity = found-capacity _ _ _ _ _ (start .pre) _ _ _ (searched .search .ensures .0) (searched .search .ensures .1 .1 .1) _ (told .n2 .given .1) in
     let first = c .before .before .before .before .before .before .before .ending2 .ensures in
-    rw (found-lines _ _ _ _ _ (start .pre) _ _ _ (searched .search .ensures .0) (searched .search .ensures .1 .1 .1) _ (told .n2 .given .1)) (room, wrote-append first (c .before .before .solution .ensures))
+    rw (found-lines _ _ _ _ _ (start .pre) _ _ _ (searched .search .ensures .0) (searched .search .ensures .1 .1 .1) _ (told .n2 .given .1)) (capacity, wrote-append first (c .before .before .solution .ensures))
 
 same-length-7 : tie.Need-same-length-7
 same-length-7 c = search needs
@@ -132,7 +132,7 @@ returns-3 c =
     let searched = told .before .before .before .before .before .before in
     let start = searched .before .before .before .before .before .before .before in
     rw (none-lines _ _ _ _ _ (start .pre) _ _ _ (searched .search .ensures .0) _ (told .n3 .given .1))
-    (ending-room _ _ _ (start .pre .lines-bytes) (omega arith) (omega arith), c .before .before .ending3 .ensures)
+    (ending-capacity _ _ _ (start .pre .lines-bytes) (omega arith) (omega arith), c .before .before .ending3 .ensures)
 
 same-length-10 : tie.Need-same-length-10
 same-length-10 c = search needs
@@ -149,7 +149,7 @@ returns-4 c =
     let searched = told .before .before .before .before .before .before in
     let start = searched .before .before .before .before .before .before .before in
     rw (spent-lines _ _ _ _ _ (start .pre) _ _ _ (searched .search .ensures .0) _ (told .n4 .given .1))
-    (ending-room _ _ _ (start .pre .lines-bytes) (omega arith) (omega arith), c .before .before .ending4 .ensures)
+    (ending-capacity _ _ _ (start .pre .lines-bytes) (omega arith) (omega arith), c .before .before .ending4 .ensures)
 
 pub outcome-spec : {M : Type 1} → statement M
 outcome-spec =

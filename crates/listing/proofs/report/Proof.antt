@@ -1,5 +1,5 @@
 use native.Mathlib.Omega.{arith}
-use Rattle.listing.proofs.SearchedLaws.{ending-room}
+use Rattle.listing.proofs.SearchedLaws.{ending-capacity}
 use Rattle.listing.proofs.ReportLaws.{longer-listing, file-listing, refused-listing, counted}
 use borrow.Author.Needs.{needs}
 use Rattle.listing.proofs.report.Statement.{statement}
@@ -14,7 +14,7 @@ slice-aggregate-ending : tie.Need-slice-aggregate-ending
 slice-aggregate-ending c = search needs
 
 ending-requires : tie.Need-ending-requires
-ending-requires c κs = ending-room _ _ _ (c .before .before .before .before .before .pre) (omega arith) (omega arith)
+ending-requires c κs = ending-capacity _ _ _ (c .before .before .before .before .before .pre) (omega arith) (omega arith)
 
 same-length : tie.Need-same-length
 same-length c = search needs
@@ -22,7 +22,7 @@ same-length c = search needs
 returns : tie.Need-returns
 returns c =
     let start = c .before .before .before .before .before .before .before .before in
-    rw (longer-listing (start .args .input .now) (omega arith)) (ending-room _ _ _ (start .pre) (omega arith) (omega arith), c .before .before .ending .ensures)
+    rw (longer-listing (start .args .input .now) (omega arith)) (ending-capacity _ _ _ (start .pre) (omega arith) (omega arith), c .before .before .ending .ensures)
 
 read-requires : tie.Need-read-requires
 read-requires c κs = search needs
@@ -38,7 +38,7 @@ cast-ending c = search needs
 
 ending-requires-2 : tie.Need-ending-requires-2
 ending-requires-2 c κs =
-    ending-room _ _ _ (c .before .before .before .before .before .before .before .before .before .pre) (omega arith) (omega arith)
+    ending-capacity _ _ _ (c .before .before .before .before .before .before .before .before .before .pre) (omega arith) (omega arith)
 
 enum-known-h : tie.Need-enum-known-h
 enum-known-h c = search needs
@@ -56,7 +56,7 @@ returns-2 c =
     let told = c .before .before .before .before .before .before in
     let read = told .before .before in
     let start = read .before .before .before .before in
-    rw (refused-listing (start .args .input .now) (omega arith) _ (read .read .ensures) _ (told .n .given .1)) (ending-room _ _ _ (start .pre) (omega arith) (omega arith), c .before .before .ending2 .ensures)
+    rw (refused-listing (start .args .input .now) (omega arith) _ (read .read .ensures) _ (told .n .given .1)) (ending-capacity _ _ _ (start .pre) (omega arith) (omega arith), c .before .before .ending2 .ensures)
 
 same-length-3 : tie.Need-same-length-3
 same-length-3 c = search needs

@@ -1,6 +1,6 @@
 use Prim.Native.Nat.{_*_}
 use Rattle.listing.proofs.TableLinesLaws.{rest-part}
-use Rattle.listing.proofs.WritingLaws.{wrote-append, room-first, room-rest}
+use Rattle.listing.proofs.WritingLaws.{wrote-append, capacity-first, capacity-rest}
 use Rattle.listing.specs.TableLines.{rowLines, tableLines}
 use borrow.Author.Needs.{needs}
 use Rattle.listing.proofs.solution.Statement.{statement}
@@ -14,7 +14,7 @@ string-lines-requires : tie.Need-string-lines-requires
 unfolding tableLines
 string-lines-requires c κs =
     let start = c .before .before .before in
-    (start .pre .0, start .pre .1, room-first (rowLines (start .args .table .now) (start .args .s)) _ (start .pre .2))
+    (start .pre .0, start .pre .1, capacity-first (rowLines (start .args .table .now) (start .args .s)) _ (start .pre .2))
 
 mul-numbers : tie.Need-mul-numbers
 mul-numbers c = search needs
@@ -36,7 +36,7 @@ unfolding tableLines
 number-lines-requires c κs =
     let strings = c .before .before .before .before in
     let start = strings .before .before .before .before in
-    rw (rest-part (start .args .table .now) (64 * start .args .s)) (room-rest (strings .string-lines .ensures) _ (start .pre .2))
+    rw (rest-part (start .args .table .now) (64 * start .args .s)) (capacity-rest (strings .string-lines .ensures) _ (start .pre .2))
 
 same-length : tie.Need-same-length
 same-length c = search needs

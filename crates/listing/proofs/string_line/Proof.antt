@@ -1,5 +1,5 @@
-use Rattle.listing.proofs.LineLaws.{first-room, field-room, fields-room, newline-room, line-wrote}
-use Rattle.listing.proofs.TableLinesLaws.{string-parts, string-room}
+use Rattle.listing.proofs.LineLaws.{first-capacity, field-capacity, fields-capacity, newline-capacity, line-wrote}
+use Rattle.listing.proofs.TableLinesLaws.{string-parts, string-capacity}
 use borrow.Author.Needs.{needs}
 use Rattle.listing.proofs.string_line.Statement.{statement}
 use Rattle.listing.proofs.string_line.Tie as tie
@@ -18,12 +18,12 @@ value-requires c κs = search needs
 
 marked-requires : tie.Need-marked-requires
 marked-requires c κs =
-    first-room _ _ _ (string-room _ _ _ (c .before .value .ensures) (c .before .before .before .before .before .pre))
+    first-capacity _ _ _ (string-capacity _ _ _ (c .before .value .ensures) (c .before .before .before .before .before .pre))
 
 marked-requires-2 : tie.Need-marked-requires-2
 marked-requires-2 c κs =
     let read = c .before .before .before .before .before in
-    field-room _ _ _ (string-room _ _ _ (read .value .ensures) (read .before .before .before .before .pre)) (c .before .before .before .marked .ensures)
+    field-capacity _ _ _ (string-capacity _ _ _ (read .value .ensures) (read .before .before .before .before .pre)) (c .before .before .before .marked .ensures)
 
 add-values : tie.Need-add-values
 add-values c = search needs
@@ -42,7 +42,7 @@ values-requires c κs =
     let length = c .before .before .before .before in
     let position = length .before .before .before .before in
     let read = position .before .before in
-    fields-room _ _ _ (string-room _ _ _ (read .value .ensures) (read .before .before .before .before .pre)) (position .marked .ensures) (length .marked2 .ensures)
+    fields-capacity _ _ _ (string-capacity _ _ _ (read .value .ensures) (read .before .before .before .before .pre)) (position .marked .ensures) (length .marked2 .ensures)
 
 newline-requires : tie.Need-newline-requires
 newline-requires c κs =
@@ -50,7 +50,7 @@ newline-requires c κs =
     let length = symbols .before .before .before .before .before in
     let position = length .before .before .before .before in
     let read = position .before .before in
-    newline-room _ _ _ (string-room _ _ _ (read .value .ensures) (read .before .before .before .before .pre)) (position .marked .ensures) (length .marked2 .ensures) (symbols .values .ensures)
+    newline-capacity _ _ _ (string-capacity _ _ _ (read .value .ensures) (read .before .before .before .before .pre)) (position .marked .ensures) (length .marked2 .ensures) (symbols .values .ensures)
 
 same-length : tie.Need-same-length
 same-length c = search needs
@@ -63,7 +63,7 @@ returns c =
     let read = position .before .before in
     let start = read .before .before .before .before in
     rw (string-parts (start .args .row .now) (start .args .x) (read .value .result) (read .value .ensures) (start .pre .0) (start .pre .1))
-    (line-wrote _ _ _ (string-room _ _ _ (read .value .ensures) (start .pre)) (position .marked .ensures) (length .marked2 .ensures) (symbols .values .ensures) (c .before .before .newline .ensures))
+    (line-wrote _ _ _ (string-capacity _ _ _ (read .value .ensures) (start .pre)) (position .marked .ensures) (length .marked2 .ensures) (symbols .values .ensures) (c .before .before .newline .ensures))
 
 pub string-line-spec : {M : Type 1} → statement M
 string-line-spec =

@@ -2,7 +2,7 @@ use Prim.Native.Nat.{_-_, _≤_}
 use mathlib.Core.List.{flatMap}
 use lib.ListN.{take}
 use native.Mathlib.Omega.{arith}
-use Rattle.listing.proofs.LineLaws.{each-start, count-room, count-step, count-end}
+use Rattle.listing.proofs.LineLaws.{each-start, count-capacity, count-step, count-end}
 use Rattle.listing.proofs.TableLinesLaws.{part-ready, part-text}
 use Rattle.listing.proofs.WritingLaws.{wrote-length}
 use Rattle.model.specs.Lists.{upto}
@@ -49,7 +49,7 @@ unfolding rowLines
 string-line-requires c κs =
     let s = c .before .before .before .before .before .before in
     let k = c .before .before .before .loop in
-    part-ready (s .args .table .now) (s .args .s) (k .x) (s .pre .0) (omega arith) (s .pre .1) (count-room (λ x. stringLine x (textOf (row (s .args .table .now) x))) (s .args .s) (k .x) (omega arith) (k .inv .1) (s .pre .2))
+    part-ready (s .args .table .now) (s .args .s) (k .x) (s .pre .0) (omega arith) (s .pre .1) (count-capacity (λ x. stringLine x (textOf (row (s .args .table .now) x))) (s .args .s) (k .x) (omega arith) (k .inv .1) (s .pre .2))
 
 add-x : tie.Need-add-x Inv-loop μ-loop
 add-x c = search needs

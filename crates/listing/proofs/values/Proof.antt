@@ -2,7 +2,7 @@ use Prim.Native.Nat.{_-_, _≤_}
 use mathlib.Core.List.{flatMap}
 use lib.ListN.{length, take}
 use native.Mathlib.Omega.{arith}
-use Rattle.listing.proofs.LineLaws.{each-start, each-room, each-step, each-end}
+use Rattle.listing.proofs.LineLaws.{each-start, each-capacity, each-step, each-end}
 use Rattle.listing.proofs.WritingLaws.{wrote-length}
 use Rattle.laws.proofs.ListLaws.{flatMap-map}
 use Rattle.model.specs.Listing.{field}
@@ -39,7 +39,7 @@ unfolding field
 marked-requires c κs =
     let s = c .before .before .before .before .before .before .before in
     let k = c .before .before .before .before .loop in
-    rw (c .before .value .ensures) (each-room (λ w. field (onlyValue w)) (s .args .domains .now) (k .i) (omega arith) (k .inv .1) (rw (flatMap-map field onlyValue (s .args .domains .now)) at (s .pre)))
+    rw (c .before .value .ensures) (each-capacity (λ w. field (onlyValue w)) (s .args .domains .now) (k .i) (omega arith) (k .inv .1) (rw (flatMap-map field onlyValue (s .args .domains .now)) at (s .pre)))
 
 add-i : tie.Need-add-i Inv-loop μ-loop
 add-i c = search needs
