@@ -1,7 +1,9 @@
 # What the documents say is so: what docs/PROMISES.md names is there, each declaration in its file and each must-fail edit, and no edit is left out; what the
-# crates' comments quote stands in the papers; the version is everywhere the same; and the example of docs/FORMAT.md is a file byte by byte.
+# crates' comments quote stands in the papers; the version is everywhere the same; the example of docs/FORMAT.md is a file
+# byte by byte; and crates.txt lists what each crate names.
 import re
 import sys
+import dependencies
 import format_example
 import quotes
 import version
@@ -21,7 +23,7 @@ def main():
     present = {(path.parent.parent.name, path.stem) for path in ROOT.glob("crates/*/must-fail/*.edit")}
     wrong += [f"crates/{crate}/must-fail/{label}.edit is not in docs/PROMISES.md with the fact it breaks" for crate, label in sorted(present - listed)]
     wrong += [f"docs/PROMISES.md names crates/{crate}/must-fail/{label}.edit, which is not there" for crate, label in sorted(listed - present)]
-    wrong += version.wrong() + format_example.wrong()
+    wrong += version.wrong() + format_example.wrong() + dependencies.wrong()
     misquoted, said = quotes.check()
     for line in wrong + misquoted:
         print("documents: " + line)
