@@ -68,15 +68,9 @@ fn parity() -> [u8; 133]
     d
 }
 
-fn regular_step(d: &[u8], x: [u64; 64]) -> [u64; 64]
-    requires { ⌜ Whole 64 (now d) ⌝ }
-{
-    regular::narrow(d, 64, x)
-}
-
-fn trim_step(x: [u64; 64], y: [u64; 64], z: [u64; 64], n: u64) -> Domains {
-    let rx = rows::trim(x);
-    Domains { x: rx, y, z, n }
+fn regular_step(x: [u64; 64]) -> [u64; 64] {
+    let d = parity();
+    regular::narrow(&d, 64, x)
 }
 
 fn eq_step(x: [u64; 64], y: [u64; 64], z: [u64; 64], n: u64) -> Domains {
@@ -138,16 +132,16 @@ fn len_step(x: [u64; 64], y: [u64; 64], z: [u64; 64], n: u64) -> Domains {
     }
 }
 
-// The automaton is handed in, so that making it is no part of a step.
-fn step(kind: u8, d: &[u8], s: Domains) -> Domains
-    requires { ⌜ Whole 64 (now d) ⌝ }
-{
+fn step(kind: u8, s: Domains) -> Domains {
     let x = s.x;
     let y = s.y;
     let z = s.z;
     let n = s.n;
     match kind {
-        0 => trim_step(x, y, z, n),
+        0 => {
+            let t = rows::trim(x);
+            Domains { x: t, y, z, n }
+        }
         1 => eq_step(x, y, z, n),
         2 => neq_step(x, y, z, n),
         3 => rev_step(x, y, z, n),
@@ -155,7 +149,7 @@ fn step(kind: u8, d: &[u8], s: Domains) -> Domains
         5 => sub_step(x, y, z, n),
         6 => len_step(x, y, z, n),
         7 => {
-            let t = regular_step(d, x);
+            let t = regular_step(x);
             Domains { x: t, y, z, n }
         }
         _ => s,
@@ -175,11 +169,10 @@ fn bits(r: [u64; 64]) -> u64 {
 
 // How many bits are left after so many steps.
 fn left(kind: u8, domains: u8, times: u8) -> u64 {
-    let d = parity();
     let mut s = start(domains);
     let mut i: u8 = 0;
     while i < times {
-        s = step(kind, &d, s);
+        s = step(kind, s);
         i += 1;
     }
     let x = s.x;

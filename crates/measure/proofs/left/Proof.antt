@@ -5,29 +5,22 @@ use Rattle.measure.proofs.left.Tie as tie
 use Rattle.measure.proofs.left.Reads as reads
 use Rattle.measure.proofs.left.Lts as lts
 use Rattle.measure.proofs.bits.Reads as bits-reads
-use Rattle.measure.proofs.parity.Reads as parity-reads
 use Rattle.measure.proofs.start.Reads as start-reads
 use Rattle.measure.proofs.step.Reads as step-reads
 use Rattle.std.proofs.num.wrapping_add_u64.Reads as wrapping-add-u64-reads
 use Rattle.words.proofs.count.Reads as count-reads
 
 abbrev Inv-loop : tie.InvT-loop
-Inv-loop kind domains times d s₀ i₀ s i = i ≤ times
+Inv-loop kind domains times s₀ i₀ s i = i ≤ times
 
 abbrev μ-loop : tie.MeasureT-loop
-μ-loop kind domains times d s₀ i₀ s i = times - i
-
-parity-requires : tie.Need-parity-requires Inv-loop μ-loop
-parity-requires c κs = search needs
+μ-loop kind domains times s₀ i₀ s i = times - i
 
 start-requires : tie.Need-start-requires Inv-loop μ-loop
 start-requires c κs = search needs
 
 loop-holds : tie.Need-loop-holds Inv-loop μ-loop
 loop-holds c = search needs
-
-slice-aggregate-step : tie.Need-slice-aggregate-step Inv-loop μ-loop
-slice-aggregate-step c = search needs
 
 step-requires : tie.Need-step-requires Inv-loop μ-loop
 step-requires c κs = search needs
@@ -74,10 +67,8 @@ left-spec =
     (tie.spec
     Inv-loop
     μ-loop
-    parity-requires
     start-requires
     loop-holds
-    slice-aggregate-step
     step-requires
     add-i
     loop-less
