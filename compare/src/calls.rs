@@ -4,8 +4,8 @@ use crate::drive::Drive;
 use crate::lent::Lent;
 use cobleskeg::{Answer, Counts, Outcome, Refusal, Settled, SETTLE};
 use second::domain::highest;
-use second::file::Header;
 use second::relations::Relation;
+use second::Header;
 use std::fmt::Debug;
 
 /// The most choices that are tried one by one for a step.

@@ -5,8 +5,9 @@ use crate::lent;
 use crate::random::Random;
 use crate::tally::Tally;
 use cobleskeg::{Outcome, SETTLE};
-use second::file::{Header, Problem};
+use second::file::Problem;
 use second::relations::Relation;
+use second::Header;
 
 /// How much of a problem is called.
 #[derive(Clone, Copy)]

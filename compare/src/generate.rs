@@ -3,8 +3,8 @@
 use crate::draft::{any, below, just, Draft, Row, LIMIT, NOTHING};
 use crate::random::Random;
 use crate::rules;
-use second::file::Header;
 use second::relations::{Automaton, Relation};
+use second::Header;
 
 /// How large a problem is to be.
 struct Shape {

@@ -2,7 +2,7 @@
 
 use crate::draft::{below, LIMIT};
 use crate::random::Random;
-use second::file::Header;
+use second::Header;
 
 /// Words before and behind a buffer that no entry may touch.
 const MARGIN: usize = 4;

@@ -1,35 +1,11 @@
 //! Reading a problem file, and refusals 1 to 8.
 
 use crate::domain;
+use crate::header::Header;
 use crate::relations::{Automaton, Relation};
 
 pub const LARGEST_FILE: usize = 25_024;
 const TRAILER: usize = 24;
-
-#[derive(Clone, Copy, Debug, PartialEq, Eq)]
-pub struct Header {
-    pub symbols: usize,
-    pub strings: usize,
-    pub numbers: usize,
-    pub automata: usize,
-    pub constraints: usize,
-}
-
-impl Header {
-    /// Words in a table.
-    pub fn words(&self) -> usize {
-        64 * self.strings + self.numbers
-    }
-
-    fn in_range(&self) -> bool {
-        1 <= self.symbols
-            && self.symbols <= 64
-            && self.strings <= 16
-            && self.numbers <= 16
-            && self.automata <= 8
-            && self.constraints <= 64
-    }
-}
 
 /// A file that was not refused.
 #[derive(Clone, Debug)]

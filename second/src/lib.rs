@@ -4,12 +4,13 @@
 pub mod domain;
 pub mod enumerate;
 pub mod file;
+pub mod header;
 pub mod plain;
 pub mod relations;
 pub mod search;
 pub mod settle;
 
-pub use file::Header;
+pub use header::Header;
 pub use search::Outcome;
 
 use file::Problem;

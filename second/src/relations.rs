@@ -1,6 +1,6 @@
 //! The constraints, as tests on concrete strings and numbers.
 
-use crate::file::Header;
+use crate::header::Header;
 
 /// A constraint with its variables named by position. `Always` is what
 /// trimming is about; no file holds it.
