@@ -1,9 +1,11 @@
 //! One call of the library and of the second solver: answers, counts and every word of every buffer must be the same.
 
-use crate::drive::Drive;
+use crate::disagreement::{Compared, Disagreement};
 use crate::lent::Lent;
+use crate::random::Random;
+use crate::solution::values;
+use crate::tally::Tally;
 use cobleskeg::{Answer, Counts, Outcome, Refusal, Settled, SETTLE};
-use second::domain::highest;
 use second::relations::Relation;
 use second::Header;
 use std::fmt::Debug;
@@ -11,19 +13,18 @@ use std::fmt::Debug;
 /// The most choices that are tried one by one for a step.
 const CHOICES: u128 = 600;
 
-/// Two answers that are not the same.
-#[derive(Debug)]
-pub struct Disagreement {
-    pub call: String,
-    pub ours: String,
-    pub theirs: String,
-    /// The first word that differs, if a buffer does.
-    pub word: Option<String>,
+/// Calls on one file.
+pub struct Calls<'a> {
+    pub file: &'a [u8],
+    pub random: &'a mut Random,
+    pub tally: &'a mut Tally,
+    /// The constraints, by the second solver; none where the file is refused.
+    pub relations: Vec<Relation>,
+    /// Whether steps are also held against trying every choice.
+    pub try_choices: bool,
 }
 
-pub type Compared<T> = Result<T, Disagreement>;
-
-impl Drive<'_> {
+impl Calls<'_> {
     pub fn read(&mut self) -> Compared<()> {
         let ours = numbered(cobleskeg::read(self.file));
         let theirs = second::read(self.file).map(counts);
@@ -45,7 +46,7 @@ impl Drive<'_> {
         if let Ok(1..) = ours {
             self.tally.struck[self.relations.get(j).map_or(0, kind)] += 1;
         }
-        if self.measure.try_choices && ours.is_ok() {
+        if self.try_choices && ours.is_ok() {
             self.try_choices(j, words, ours, &mut table)?;
         }
         Ok(())
@@ -167,14 +168,6 @@ fn outcome(theirs: second::Outcome) -> Outcome {
         second::Outcome::None(nodes) => Outcome::None(nodes),
         second::Outcome::Spent(nodes) => Outcome::Spent(nodes),
     }
-}
-
-/// The strings and numbers of a table that stands for one of each.
-pub fn values(table: &[u64], strings: usize) -> (Vec<Vec<u8>>, Vec<u8>) {
-    let value = |word: u64| highest(word) as u8;
-    let (rows, numbers) = table.split_at(64 * strings);
-    let string = |row: &[u64]| (1..=highest(row[0])).map(|i| value(row[i])).collect();
-    (rows.chunks(64).map(string).collect(), numbers.iter().map(|&word| value(word)).collect())
 }
 
 /// The kind of a constraint, as files number it.

@@ -1,39 +1,15 @@
 //! Damaged files: for each of the refusals 1 to 8, and for each of its clauses in document 01, a change that the file is refused for.
 
+mod change;
 mod parts;
 mod trailer;
 
-use crate::draft::{Draft, Laid, LIMIT, NOTHING};
+use crate::draft::{Draft, LIMIT, NOTHING};
 use crate::generate::record;
 use crate::random::Random;
 use crate::rules;
-
-type On<T> = Box<dyn Fn(&mut T, &mut Random) + Send + Sync>;
-
-/// What a damage is done to: the description, whose counts and distances then fit; the fields of the trailer; or the bytes.
-enum Change {
-    Draft(On<Draft>),
-    Laid(On<Laid>),
-    Bytes(On<Vec<u8>>),
-}
-
-/// A change after which this refusal applies.
-pub struct Damage {
-    pub refusal: u8,
-    change: Change,
-}
-
-fn on_draft(refusal: u8, change: impl Fn(&mut Draft, &mut Random) + Send + Sync + 'static) -> Damage {
-    Damage { refusal, change: Change::Draft(Box::new(change)) }
-}
-
-fn on_laid(refusal: u8, change: impl Fn(&mut Laid, &mut Random) + Send + Sync + 'static) -> Damage {
-    Damage { refusal, change: Change::Laid(Box::new(change)) }
-}
-
-fn on_bytes(refusal: u8, change: impl Fn(&mut Vec<u8>, &mut Random) + Send + Sync + 'static) -> Damage {
-    Damage { refusal, change: Change::Bytes(Box::new(change)) }
-}
+use change::Change;
+pub use change::Damage;
 
 /// A problem that every damage can be done to: there is something of each sort, and no count is at its limit.
 pub fn sound(random: &mut Random) -> Draft {

@@ -1,49 +1,27 @@
 //! Which calls are made on one problem file.
 
-use crate::calls::Compared;
+use crate::calls::Calls;
+use crate::disagreement::Compared;
 use crate::lent;
-use crate::random::Random;
-use crate::tally::Tally;
+use crate::measure::Measure;
 use cobleskeg::{Outcome, SETTLE};
 use second::file::Problem;
-use second::relations::Relation;
 use second::Header;
 
-/// How much of a problem is called.
-#[derive(Clone, Copy)]
-pub struct Measure {
-    /// The larger budget.
-    pub budget: u32,
-    /// The most steps that are called on each table; others are left out at random.
-    pub steps: usize,
-    /// The longest list of calls.
-    pub calls: usize,
-    /// Whether steps are also held against trying every choice.
-    pub try_choices: bool,
-}
-
 pub struct Drive<'a> {
-    pub file: &'a [u8],
+    pub calls: Calls<'a>,
     pub measure: Measure,
-    pub random: &'a mut Random,
-    pub tally: &'a mut Tally,
-    /// The constraints, by the second solver; none where the file is refused.
-    pub relations: Vec<Relation>,
 }
 
-impl<'a> Drive<'a> {
-    pub fn new(file: &'a [u8], measure: Measure, random: &'a mut Random, tally: &'a mut Tally) -> Drive<'a> {
-        Drive { file, measure, random, tally, relations: Vec::new() }
-    }
-
+impl Drive<'_> {
     /// All calls on the file. Answers what Search comes to within the larger budget, or nothing where the file is refused.
     pub fn run(&mut self) -> Compared<Option<Outcome>> {
-        self.read()?;
-        let Ok(problem) = Problem::parse(self.file) else {
+        self.calls.read()?;
+        let Ok(problem) = Problem::parse(self.calls.file) else {
             return self.refused_file().map(|()| None);
         };
-        self.relations = problem.constraints;
-        self.unpack(problem.table.len())?;
+        self.calls.relations = problem.constraints;
+        self.calls.unpack(problem.table.len())?;
         self.steps(&problem.header, &problem.table)?;
         self.settles(&problem.header, &problem.table)?;
         self.lists(&problem.header, &problem.table)?;
@@ -54,17 +32,17 @@ impl<'a> Drive<'a> {
     /// A refused file is refused by every entry, whatever is lent.
     fn refused_file(&mut self) -> Compared<()> {
         // What the trailer's counts of strings and numbers ask for, if there is a trailer.
-        let [strings, numbers] = [23, 22].map(|back| self.file.len().checked_sub(back).map_or(0, |at| usize::from(self.file[at])));
+        let [strings, numbers] = [23, 22].map(|back| self.calls.file.len().checked_sub(back).map_or(0, |at| usize::from(self.calls.file[at])));
         for fitting in [64 * strings + numbers, 0, 0] {
-            let any = *self.random.pick(&[0, 1, 2, 64, 65, 129, 193, 258, 1040]);
+            let any = *self.calls.random.pick(&[0, 1, 2, 64, 65, 129, 193, 258, 1040]);
             let words = if fitting > 0 { fitting } else { any };
-            let table = self.random.words(words);
-            let j = self.random.below(90);
-            self.unpack(words)?;
-            self.step(j, &table)?;
-            self.settle(&table)?;
-            self.search(7, 3 * words, words)?;
-            self.perform(&[j as u32, SETTLE], &table)?;
+            let table = self.calls.random.words(words);
+            let j = self.calls.random.below(90);
+            self.calls.unpack(words)?;
+            self.calls.step(j, &table)?;
+            self.calls.settle(&table)?;
+            self.calls.search(7, 3 * words, words)?;
+            self.calls.perform(&[j as u32, SETTLE], &table)?;
         }
         Ok(())
     }
@@ -72,35 +50,35 @@ impl<'a> Drive<'a> {
     /// Every step, or some, on the file's table and on another one; and numbers that are no step.
     fn steps(&mut self, header: &Header, of_file: &[u64]) -> Compared<()> {
         let steps = header.constraints + header.strings;
-        let other = lent::table(self.random, header, of_file);
+        let other = lent::table(self.calls.random, header, of_file);
         for table in [of_file, &other] {
             let mut numbers: Vec<usize> = (0..steps).collect();
             if steps > self.measure.steps {
-                self.random.shuffle(&mut numbers);
+                self.calls.random.shuffle(&mut numbers);
                 numbers.truncate(self.measure.steps);
             }
             for j in numbers {
-                self.step(j, table)?;
+                self.calls.step(j, table)?;
             }
         }
-        let past = 1 << *self.random.pick(&[8, 16, 32, 63]);
-        for j in [steps, steps + 1, past, past + self.random.below(steps + 1), usize::MAX] {
-            self.step(j, &other)?;
+        let past = 1 << *self.calls.random.pick(&[8, 16, 32, 63]);
+        for j in [steps, steps + 1, past, past + self.calls.random.below(steps + 1), usize::MAX] {
+            self.calls.step(j, &other)?;
         }
         Ok(())
     }
 
     /// The file's table, and any; then the file's settled one with a word decided, as a search goes on.
     fn settles(&mut self, header: &Header, of_file: &[u64]) -> Compared<()> {
-        let other = lent::table(self.random, header, of_file);
-        self.settle(&other)?;
-        let mut table = self.settle(of_file)?;
+        let other = lent::table(self.calls.random, header, of_file);
+        self.calls.settle(&other)?;
+        let mut table = self.calls.settle(of_file)?;
         let open: Vec<usize> = (0..table.len()).filter(|&i| table[i].count_ones() > 1).collect();
         if !open.is_empty() {
-            let at = *self.random.pick(&open);
+            let at = *self.calls.random.pick(&open);
             let values: Vec<u64> = second::domain::bits(table[at]).map(second::domain::bit).collect();
-            table[at] = *self.random.pick(&values);
-            self.settle(&table)?;
+            table[at] = *self.calls.random.pick(&values);
+            self.calls.settle(&table)?;
         }
         Ok(())
     }
@@ -109,31 +87,31 @@ impl<'a> Drive<'a> {
     fn lists(&mut self, header: &Header, of_file: &[u64]) -> Compared<()> {
         let steps = header.constraints + header.strings;
         for _ in 0..2 {
-            let longest = *self.random.pick(&[0, 1, 3, 6, 12, 30, 400]);
-            let count = self.random.below(longest + 1).min(self.measure.calls);
+            let longest = *self.calls.random.pick(&[0, 1, 3, 6, 12, 30, 400]);
+            let count = self.calls.random.below(longest + 1).min(self.measure.calls);
             let list: Vec<u32> = (0..count).map(|_| self.listed(steps)).collect();
-            let table = match self.random.below(8) {
+            let table = match self.calls.random.below(8) {
                 0 => {
-                    let words = lent::wrong_size(self.random, of_file.len());
-                    self.random.words(words)
+                    let words = lent::wrong_size(self.calls.random, of_file.len());
+                    self.calls.random.words(words)
                 }
-                1 => lent::with_foreign_symbol(self.random, header, of_file).unwrap_or_default(),
+                1 => lent::with_foreign_symbol(self.calls.random, header, of_file).unwrap_or_default(),
                 2 | 3 => of_file.to_vec(),
-                _ => lent::table(self.random, header, of_file),
+                _ => lent::table(self.calls.random, header, of_file),
             };
-            self.perform(&list, &table)?;
+            self.calls.perform(&list, &table)?;
         }
         Ok(())
     }
 
     /// A number for a list: mostly a step.
     fn listed(&mut self, steps: usize) -> u32 {
-        match self.random.below(16) {
+        match self.calls.random.below(16) {
             0 | 1 => SETTLE,
             2 => steps as u32,
-            3 => *self.random.pick(&[SETTLE - 1, 1 << 16, 1 << 31, 65_535, 255, 256]),
-            4 => self.random.word() as u32,
-            _ => self.random.below(steps + 1) as u32,
+            3 => *self.calls.random.pick(&[SETTLE - 1, 1 << 16, 1 << 31, 65_535, 255, 256]),
+            4 => self.calls.random.word() as u32,
+            _ => self.calls.random.below(steps + 1) as u32,
         }
     }
 
@@ -141,39 +119,39 @@ impl<'a> Drive<'a> {
     fn refused_buffers(&mut self, header: &Header, of_file: &[u64]) -> Compared<()> {
         let words = of_file.len();
         for _ in 0..2 {
-            let size = lent::wrong_size(self.random, words);
-            let table = self.random.words(size);
-            let j = *self.random.pick(&[0, 99, usize::MAX]);
-            self.unpack(size)?;
-            self.step(j, &table)?;
-            self.settle(&table)?;
-            if let Some(table) = lent::with_foreign_symbol(self.random, header, of_file) {
-                self.step(j, &table)?;
-                self.settle(&table)?;
+            let size = lent::wrong_size(self.calls.random, words);
+            let table = self.calls.random.words(size);
+            let j = *self.calls.random.pick(&[0, 99, usize::MAX]);
+            self.calls.unpack(size)?;
+            self.calls.step(j, &table)?;
+            self.calls.settle(&table)?;
+            if let Some(table) = lent::with_foreign_symbol(self.calls.random, header, of_file) {
+                self.calls.step(j, &table)?;
+                self.calls.settle(&table)?;
             }
-            let any = self.random.below(3 * words + 1);
-            let short = *self.random.pick(&[(3 * words).saturating_sub(1), 0, words, any]);
-            let either = *self.random.pick(&[words, size]);
-            self.search(3, short, either)?;
-            let beyond = self.random.below(3);
-            self.search(3, 3 * words + beyond, size)?;
+            let any = self.calls.random.below(3 * words + 1);
+            let short = *self.calls.random.pick(&[(3 * words).saturating_sub(1), 0, words, any]);
+            let either = *self.calls.random.pick(&[words, size]);
+            self.calls.search(3, short, either)?;
+            let beyond = self.calls.random.below(3);
+            self.calls.search(3, 3 * words + beyond, size)?;
         }
         Ok(())
     }
 
     /// The larger budget, the smallest ones, and where the search ends those around its count, the greatest, and the answer in strings and numbers.
     fn searches(&mut self, words: usize) -> Compared<Option<Outcome>> {
-        let outcome = self.search(self.measure.budget, 3 * words, words)?;
+        let outcome = self.calls.search(self.measure.budget, 3 * words, words)?;
         let mut budgets = vec![0, 1, 2];
         if let Some(Outcome::Found(nodes) | Outcome::None(nodes)) = outcome {
             budgets.extend([nodes - 1, nodes, nodes + 1, u32::MAX]);
-            self.solve(self.measure.budget)?;
+            self.calls.solve(self.measure.budget)?;
         }
         budgets.sort_unstable();
         budgets.dedup();
         for budget in budgets {
-            let room = 3 * words + *self.random.pick(&[0, 0, 1, 7, 100]);
-            self.search(budget, room, words)?;
+            let room = 3 * words + *self.calls.random.pick(&[0, 0, 1, 7, 100]);
+            self.calls.search(budget, room, words)?;
         }
         Ok(outcome)
     }

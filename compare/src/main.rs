@@ -8,21 +8,26 @@
 
 mod calls;
 mod case;
+mod check;
 mod damage;
+mod disagreement;
 mod draft;
 mod drive;
 mod generate;
 mod hard;
+mod kind;
 mod lent;
+mod measure;
 mod noise;
 mod program;
 mod random;
 mod rules;
+mod solution;
 mod tally;
 mod templates;
 
-use calls::Disagreement;
 use case::Case;
+use disagreement::Disagreement;
 use std::panic::{catch_unwind, AssertUnwindSafe};
 use std::path::PathBuf;
 use std::process::ExitCode;

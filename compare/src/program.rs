@@ -1,7 +1,7 @@
 //! Runs of the program, and the lines that it must print by the second solver's answer.
 
-use crate::calls::values;
 use crate::random::Random;
+use crate::solution::values;
 use second::file::LARGEST_FILE;
 use second::Outcome;
 use std::io::{self, Write};

@@ -1,6 +1,6 @@
 //! What has been compared, and whether anything never came up.
 
-use crate::case::Kind;
+use crate::kind::Kind;
 use std::fmt::Display;
 
 const ENTRIES: [&str; 7] = ["read", "unpack", "step", "settle", "search", "perform", "solve"];

@@ -1,6 +1,6 @@
 //! Damages in automata, table and constraints: refusals 5 to 8.
 
-use super::{on_draft, on_laid, Damage};
+use super::change::{on_draft, on_laid, Damage};
 use crate::draft::{below, Draft, Laid};
 use crate::generate::record;
 use crate::random::Random;

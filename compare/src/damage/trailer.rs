@@ -1,6 +1,6 @@
 //! Damages that the trailer shows: refusals 1 to 4.
 
-use super::{on_bytes, on_draft, on_laid, Damage};
+use super::change::{on_bytes, on_draft, on_laid, Damage};
 use crate::draft::{Laid, NOTHING};
 use crate::random::Random;
 use crate::rules;
