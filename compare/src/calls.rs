@@ -1,14 +1,15 @@
-//! One call of the library and of the second solver: answers, counts and every word of every buffer must be the same.
+//! One call of the library and of the second solver: answers, results behind pointers and every word of every buffer must be the same.
 
 use crate::disagreement::{Compared, Disagreement};
-use crate::lent::Lent;
+use crate::ended;
+use crate::entries;
+use crate::lent::{Lent, Memory};
+use crate::marked::{Held, Marked};
 use crate::random::Random;
-use crate::solution::values;
 use crate::tally::Tally;
-use cobleskeg::{Answer, Counts, Outcome, Refusal, Settled, SETTLE};
+use cobleskeg::SETTLE;
 use second::relations::Relation;
-use second::Header;
-use std::fmt::Debug;
+use second::Outcome;
 
 /// The most choices that are tried one by one for a step.
 const CHOICES: u128 = 600;
@@ -16,6 +17,7 @@ const CHOICES: u128 = 600;
 /// Calls on one file.
 pub struct Calls<'a> {
     pub file: &'a [u8],
+    pub memory: &'a Memory,
     pub random: &'a mut Random,
     pub tally: &'a mut Tally,
     /// The constraints, by the second solver; none where the file is refused.
@@ -24,150 +26,150 @@ pub struct Calls<'a> {
     pub try_choices: bool,
 }
 
+/// A search's answer by the header's numbers.
+fn outcome(answer: Outcome) -> (u8, u32) {
+    match answer {
+        Outcome::Found(nodes) => (1, nodes),
+        Outcome::None(nodes) => (2, nodes),
+        Outcome::Spent(nodes) => (3, nodes),
+    }
+}
+
 impl Calls<'_> {
     pub fn read(&mut self) -> Compared<()> {
-        let ours = numbered(cobleskeg::read(self.file));
-        let theirs = second::read(self.file).map(counts);
-        self.agree(0, || "read".into(), &ours, &theirs, &[])
+        let file = self.file;
+        let mut counts = [0; 5].map(|_| Marked::<usize>::new(self.random));
+        let [k, s, t, d, c] = counts.each_mut().map(Marked::pointer);
+        ended::at_entry("read");
+        let ours = unsafe { entries::cobleskeg_read(file.as_ptr(), file.len(), k, s, t, d, c) };
+        let theirs = second::read(file);
+        let wanted = theirs.ok().map(|header| [header.symbols, header.strings, header.numbers, header.automata, header.constraints]);
+        let names = ["symbols", "strings", "numbers", "automata", "constraints"];
+        let results: Vec<Held> = (0..5).map(|at| counts[at].held(names[at], wanted.map(|wanted| wanted[at]))).collect();
+        self.agree(0, || "read".into(), ours, theirs.err(), &results, &[])
     }
 
     pub fn unpack(&mut self, words: usize) -> Compared<()> {
-        let mut table = Lent::random(self.random, words);
-        let ours = numbered(cobleskeg::unpack(self.file, table.ours()));
-        let theirs = second::unpack(self.file, table.theirs());
-        self.agree(1, || format!("unpack into {words} words"), &ours, &theirs, &[&table])
+        let file = self.file;
+        let mut table = Lent::random(&self.memory.table, self.random, words);
+        ended::at_entry("unpack");
+        let ours = unsafe { entries::cobleskeg_unpack(file.as_ptr(), file.len(), table.ours().as_mut_ptr(), words) };
+        let theirs = second::unpack(file, table.theirs());
+        self.agree(1, || format!("unpack into {words} words"), ours, theirs.err(), &[], &[&table])
     }
 
     pub fn step(&mut self, j: usize, words: &[u64]) -> Compared<()> {
-        let mut table = Lent::new(self.random, words);
-        let ours = numbered(cobleskeg::step(self.file, j, table.ours()));
-        let theirs = second::step(self.file, j as u64, table.theirs());
-        self.agree(2, || format!("step {j} on {} words", words.len()), &ours, &theirs, &[&table])?;
-        if let Ok(1..) = ours {
+        let file = self.file;
+        let mut table = Lent::new(&self.memory.table, self.random, words);
+        let mut struck = Marked::new(self.random);
+        ended::at_entry("step");
+        let ours = unsafe { entries::cobleskeg_step(file.as_ptr(), file.len(), j, table.ours().as_mut_ptr(), words.len(), struck.pointer()) };
+        let theirs = second::step(file, j as u64, table.theirs());
+        let results = [struck.held("struck", theirs.ok())];
+        self.agree(2, || format!("step {j} on {} words", words.len()), ours, theirs.err(), &results, &[&table])?;
+        let Ok(struck) = theirs else { return Ok(()) };
+        if struck > 0 {
             self.tally.struck[self.relations.get(j).map_or(0, kind)] += 1;
         }
-        if self.try_choices && ours.is_ok() {
-            self.try_choices(j, words, ours, &mut table)?;
+        if self.try_choices {
+            self.try_choices(j, words, struck, &mut table)?;
         }
         Ok(())
     }
 
-    /// The same step by trying every choice, if they are few. `table` holds what the library left.
-    fn try_choices(&mut self, j: usize, words: &[u64], ours: Result<u32, u8>, table: &mut Lent) -> Compared<()> {
+    /// The same step by trying every choice, if they are few. `table` holds what the library left, and `struck` is what it answered.
+    fn try_choices(&mut self, j: usize, words: &[u64], struck: u32, table: &mut Lent) -> Compared<()> {
         table.theirs().copy_from_slice(words);
-        if let Ok(Some(tried)) = second::step_by_enumeration(self.file, j as u64, table.theirs(), CHOICES) {
-            self.tally.tried += 1;
-            differing(|| format!("step {j} by trying every choice"), &ours, &Ok(tried), &[table])?;
-        }
-        Ok(())
+        let Ok(Some(tried)) = second::step_by_enumeration(self.file, j as u64, table.theirs(), CHOICES) else {
+            return Ok(());
+        };
+        self.tally.tried += 1;
+        let results = [Held { name: "struck", ours: [0, struck.into(), 0], theirs: [0, tried.into(), 0] }];
+        differing(|| format!("step {j} by trying every choice"), 0, None, &results, &[table])
     }
 
     /// Answers the table afterwards.
     pub fn settle(&mut self, words: &[u64]) -> Compared<Vec<u64>> {
-        let mut table = Lent::new(self.random, words);
-        let ours = numbered(cobleskeg::settle(self.file, table.ours()));
-        let theirs = second::settle(self.file, table.theirs()).map(|(rounds, every_value)| Settled { rounds, every_value });
-        self.agree(3, || format!("settle {} words", words.len()), &ours, &theirs, &[&table])?;
-        Ok(table.ours().to_vec())
+        let file = self.file;
+        let mut table = Lent::new(&self.memory.table, self.random, words);
+        let (mut rounds, mut every_value) = (Marked::new(self.random), Marked::new(self.random));
+        let (r, e) = (rounds.pointer(), every_value.pointer());
+        ended::at_entry("settle");
+        let ours = unsafe { entries::cobleskeg_settle(file.as_ptr(), file.len(), table.ours().as_mut_ptr(), words.len(), r, e) };
+        let theirs = second::settle(file, table.theirs());
+        let wanted = theirs.ok();
+        let results = [rounds.held("rounds", wanted.map(|(rounds, _)| rounds)), every_value.held("every_value", wanted.map(|(_, every)| every.into()))];
+        self.agree(3, || format!("settle {} words", words.len()), ours, theirs.err(), &results, &[&table])?;
+        Ok(table.theirs().to_vec())
     }
 
     /// Answers the outcome, or nothing where it is refused.
     pub fn search(&mut self, budget: u32, room_words: usize, words: usize) -> Compared<Option<Outcome>> {
-        let mut room = Lent::random(self.random, room_words);
-        let mut table = Lent::random(self.random, words);
-        let ours = numbered(cobleskeg::search(self.file, budget, room.ours(), table.ours()));
-        let theirs = second::search(self.file, budget, room.theirs(), table.theirs()).map(outcome);
+        let file = self.file;
+        let mut room = Lent::random(&self.memory.room, self.random, room_words);
+        let mut table = Lent::random(&self.memory.table, self.random, words);
+        let (mut how, mut nodes) = (Marked::new(self.random), Marked::new(self.random));
+        let (at, to) = (room.ours().as_mut_ptr(), table.ours().as_mut_ptr());
+        ended::at_entry("search");
+        let ours = unsafe { entries::cobleskeg_search(file.as_ptr(), file.len(), budget, at, room_words, to, words, how.pointer(), nodes.pointer()) };
+        let theirs = second::search(file, budget, room.theirs(), table.theirs());
+        let wanted = theirs.ok().map(outcome);
+        let results = [how.held("outcome", wanted.map(|(how, _)| how)), nodes.held("nodes", wanted.map(|(_, nodes)| nodes))];
         let call = || format!("search with budget {budget}, {room_words} words of room, {words} words for the answer");
-        self.agree(4, call, &ours, &theirs, &[&table, &room])?;
-        match ours {
-            Ok(Outcome::Found(_)) => self.tally.outcomes[0] += 1,
-            Ok(Outcome::None(_)) => self.tally.outcomes[1] += 1,
-            Ok(Outcome::Spent(_)) => self.tally.outcomes[2] += 1,
-            Err(_) => {}
+        self.agree(4, call, ours, theirs.err(), &results, &[&table, &room])?;
+        if let Some((how, _)) = wanted {
+            self.tally.outcomes[usize::from(how) - 1] += 1;
         }
-        Ok(ours.ok())
-    }
-
-    /// The answer in strings and numbers, for a file that is not refused.
-    pub fn solve(&mut self, budget: u32) -> Compared<()> {
-        let ours = numbered(cobleskeg::solve(self.file, budget));
-        let theirs = second::read(self.file).and_then(|header| {
-            let (mut room, mut table) = (vec![0; 3 * header.words()], vec![0; header.words()]);
-            Ok(match second::search(self.file, budget, &mut room, &mut table)? {
-                second::Outcome::Found(nodes) => {
-                    let (strings, numbers) = values(&table, header.strings);
-                    Answer::Found { nodes, strings, numbers }
-                }
-                second::Outcome::None(nodes) => Answer::None { nodes },
-                second::Outcome::Spent(nodes) => Answer::Spent { nodes },
-            })
-        });
-        self.agree(6, || format!("solve with budget {budget}"), &ours, &theirs, &[])
+        Ok(theirs.ok())
     }
 
     /// The second solver takes the calls one by one; one that is refused leaves the table.
     pub fn perform(&mut self, list: &[u32], words: &[u64]) -> Compared<()> {
-        let mut table = Lent::new(self.random, words);
-        cobleskeg::perform(self.file, list, table.ours());
+        let file = self.file;
+        let mut table = Lent::new(&self.memory.table, self.random, words);
+        let lent = self.memory.list(list);
+        ended::at_entry("perform");
+        unsafe { entries::cobleskeg_perform(file.as_ptr(), file.len(), lent.as_ptr(), lent.len(), table.ours().as_mut_ptr(), words.len()) };
         for &call in list {
             let _refused = match call {
-                SETTLE => second::settle(self.file, table.theirs()).err(),
-                j => second::step(self.file, u64::from(j), table.theirs()).err(),
+                SETTLE => second::settle(file, table.theirs()).err(),
+                j => second::step(file, u64::from(j), table.theirs()).err(),
             };
         }
-        self.agree(5, || format!("perform {list:?} on {} words", words.len()), &Ok(()), &Ok(()), &[&table])
+        self.agree(5, || format!("perform {list:?} on {} words", words.len()), 0, None, &[], &[&table])
     }
 
     /// Counts a call of this entry, and compares.
-    fn agree<T: PartialEq + Debug>(
-        &mut self,
-        entry: usize,
-        call: impl Fn() -> String,
-        ours: &Result<T, u8>,
-        theirs: &Result<T, u8>,
-        buffers: &[&Lent],
-    ) -> Compared<()> {
-        self.tally.entries[entry] += 1;
-        if let Err(number) = theirs {
-            self.tally.refusals[usize::from(*number)] += 1;
-        }
-        differing(call, ours, theirs, buffers)
+    fn agree(&mut self, entry: usize, call: impl Fn() -> String, ours: u8, refused: Option<u8>, results: &[Held], buffers: &[&Lent]) -> Compared<()> {
+        self.tally.call(entry, refused);
+        differing(call, ours, refused, results, buffers)
     }
 }
 
-/// Refuses two answers that differ, and buffers that do.
-fn differing<T: PartialEq + Debug>(call: impl Fn() -> String, ours: &Result<T, u8>, theirs: &Result<T, u8>, buffers: &[&Lent]) -> Compared<()> {
+/// Refuses two answers that differ, and results or buffers that do. `refused` is the second solver's refusal.
+fn differing(call: impl Fn() -> String, ours: u8, refused: Option<u8>, results: &[Held], buffers: &[&Lent]) -> Compared<()> {
     let difference = buffers.iter().enumerate().find_map(|(at, lent)| lent.difference().map(|word| (at, word)));
-    if ours == theirs && difference.is_none() {
+    let theirs = refused.unwrap_or(0);
+    if ours == theirs && difference.is_none() && results.iter().all(|held| held.ours == held.theirs) {
         return Ok(());
     }
     let buffer = |at: usize| if at == 0 { "table" } else { "room" };
     let word = difference.map(|(at, (place, ours, theirs))| format!("word {place} of the {}: {ours:#x}, {theirs:#x}", buffer(at)));
-    Err(Disagreement { call: call(), ours: answer(ours), theirs: answer(theirs), word })
+    let (ours, theirs) = (answer(ours, results, |held| held.ours), answer(theirs, results, |held| held.theirs));
+    Err(Disagreement { call: call(), ours, theirs, word })
 }
 
-fn answer<T: Debug>(answer: &Result<T, u8>) -> String {
-    match answer {
-        Ok(accepted) => format!("{accepted:?}"),
-        Err(number) => format!("refused {number}"),
+/// An answer with the results behind it, neighbours included where they are not the marks that they were.
+fn answer(number: u8, results: &[Held], side: impl Fn(&Held) -> [u64; 3]) -> String {
+    let mut text = if number == 0 { "accepted".into() } else { format!("refused {number}") };
+    for held in results {
+        let [before, result, behind] = side(held);
+        text += &format!(", {} {result}", held.name);
+        if [held.ours[0], held.ours[2]] != [held.theirs[0], held.theirs[2]] {
+            text += &format!(" between {before} and {behind}");
+        }
     }
-}
-
-fn numbered<T>(answer: Result<T, Refusal>) -> Result<T, u8> {
-    answer.map_err(Refusal::number)
-}
-
-fn counts(header: Header) -> Counts {
-    let Header { symbols, strings, numbers, automata, constraints } = header;
-    Counts { symbols, strings, numbers, automata, constraints }
-}
-
-fn outcome(theirs: second::Outcome) -> Outcome {
-    match theirs {
-        second::Outcome::Found(nodes) => Outcome::Found(nodes),
-        second::Outcome::None(nodes) => Outcome::None(nodes),
-        second::Outcome::Spent(nodes) => Outcome::Spent(nodes),
-    }
+    text
 }
 
 /// The kind of a constraint, as files number it.

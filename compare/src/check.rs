@@ -2,12 +2,13 @@
 
 use crate::calls::Calls;
 use crate::case::Case;
-use crate::disagreement::Disagreement;
+use crate::disagreement::{Compared, Disagreement};
 use crate::drive::Drive;
 use crate::kind::Kind;
+use crate::lent::Memory;
 use crate::program;
 use crate::tally::Tally;
-use cobleskeg::Outcome;
+use second::Outcome;
 use std::path::Path;
 
 /// One case in so many also goes through the program.
@@ -15,17 +16,13 @@ const PROGRAM_SHARE: usize = 20;
 
 impl Case {
     /// All calls, and at times the program.
-    pub fn compare(&mut self, program: Option<&Path>, tally: &mut Tally) -> Result<(), Disagreement> {
+    pub fn compare(&mut self, program: Option<&Path>, memory: &Memory, tally: &mut Tally) -> Compared<()> {
         tally.kinds[self.kind as usize] += 1;
-        // The file lies anywhere in memory, between other bytes.
-        let before = self.random.below(8);
-        let around: Vec<u8> = (0..before).chain(0..8).map(|_| self.random.byte()).collect();
-        let framed = [&around[..before], &self.file, &around[before..]].concat();
-        let lent = &framed[before..before + self.file.len()];
+        let file = memory.file(&mut self.random, &self.file);
         let (random, relations, try_choices) = (&mut self.random, Vec::new(), self.measure.try_choices);
-        let calls = Calls { file: lent, random, tally, relations, try_choices };
+        let calls = Calls { file, memory, random, tally, relations, try_choices };
         let outcome = Drive { calls, measure: self.measure }.run()?;
-        if lent != self.file {
+        if file != self.file {
             return Err(Disagreement { call: "all".into(), ours: "the file is changed".into(), theirs: String::new(), word: None });
         }
         // A search that did not end may take long within the program's budget.
@@ -36,7 +33,7 @@ impl Case {
         }
     }
 
-    fn run(&mut self, program: &Path, tally: &mut Tally) -> Result<(), Disagreement> {
+    fn run(&mut self, program: &Path, tally: &mut Tally) -> Compared<()> {
         let input = if self.kind == Kind::Endless { self.file.clone() } else { program::input(&mut self.random, &self.file) };
         let theirs = program::lines(&input);
         let ours = program::printed(program, &input).unwrap_or_else(|trouble| format!("{trouble}"));

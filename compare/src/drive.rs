@@ -1,12 +1,16 @@
 //! Which calls are made on one problem file.
 
+use crate::by_crate;
 use crate::calls::Calls;
 use crate::disagreement::Compared;
-use crate::lent;
 use crate::measure::Measure;
-use cobleskeg::{Outcome, SETTLE};
+use crate::tables;
+use cobleskeg::SETTLE;
 use second::file::Problem;
-use second::Header;
+use second::{Header, Outcome};
+
+/// One problem in so many also goes through the functions of the Rust crate.
+const CRATE_SHARE: usize = 8;
 
 pub struct Drive<'a> {
     pub calls: Calls<'a>,
@@ -26,6 +30,10 @@ impl Drive<'_> {
         self.settles(&problem.header, &problem.table)?;
         self.lists(&problem.header, &problem.table)?;
         self.refused_buffers(&problem.header, &problem.table)?;
+        if self.calls.random.once_in(CRATE_SHARE) {
+            let table = tables::table(self.calls.random, &problem.header, &problem.table);
+            by_crate::functions(self.calls.file, self.calls.random, &table)?;
+        }
         self.searches(problem.table.len())
     }
 
@@ -50,7 +58,7 @@ impl Drive<'_> {
     /// Every step, or some, on the file's table and on another one; and numbers that are no step.
     fn steps(&mut self, header: &Header, of_file: &[u64]) -> Compared<()> {
         let steps = header.constraints + header.strings;
-        let other = lent::table(self.calls.random, header, of_file);
+        let other = tables::table(self.calls.random, header, of_file);
         for table in [of_file, &other] {
             let mut numbers: Vec<usize> = (0..steps).collect();
             if steps > self.measure.steps {
@@ -70,7 +78,7 @@ impl Drive<'_> {
 
     /// The file's table, and any; then the file's settled one with a word decided, as a search goes on.
     fn settles(&mut self, header: &Header, of_file: &[u64]) -> Compared<()> {
-        let other = lent::table(self.calls.random, header, of_file);
+        let other = tables::table(self.calls.random, header, of_file);
         self.calls.settle(&other)?;
         let mut table = self.calls.settle(of_file)?;
         let open: Vec<usize> = (0..table.len()).filter(|&i| table[i].count_ones() > 1).collect();
@@ -92,12 +100,12 @@ impl Drive<'_> {
             let list: Vec<u32> = (0..count).map(|_| self.listed(steps)).collect();
             let table = match self.calls.random.below(8) {
                 0 => {
-                    let words = lent::wrong_size(self.calls.random, of_file.len());
+                    let words = tables::wrong_size(self.calls.random, of_file.len());
                     self.calls.random.words(words)
                 }
-                1 => lent::with_foreign_symbol(self.calls.random, header, of_file).unwrap_or_default(),
+                1 => tables::with_foreign_symbol(self.calls.random, header, of_file).unwrap_or_default(),
                 2 | 3 => of_file.to_vec(),
-                _ => lent::table(self.calls.random, header, of_file),
+                _ => tables::table(self.calls.random, header, of_file),
             };
             self.calls.perform(&list, &table)?;
         }
@@ -119,13 +127,13 @@ impl Drive<'_> {
     fn refused_buffers(&mut self, header: &Header, of_file: &[u64]) -> Compared<()> {
         let words = of_file.len();
         for _ in 0..2 {
-            let size = lent::wrong_size(self.calls.random, words);
+            let size = tables::wrong_size(self.calls.random, words);
             let table = self.calls.random.words(size);
             let j = *self.calls.random.pick(&[0, 99, usize::MAX]);
             self.calls.unpack(size)?;
             self.calls.step(j, &table)?;
             self.calls.settle(&table)?;
-            if let Some(table) = lent::with_foreign_symbol(self.calls.random, header, of_file) {
+            if let Some(table) = tables::with_foreign_symbol(self.calls.random, header, of_file) {
                 self.calls.step(j, &table)?;
                 self.calls.settle(&table)?;
             }
@@ -145,7 +153,7 @@ impl Drive<'_> {
         let mut budgets = vec![0, 1, 2];
         if let Some(Outcome::Found(nodes) | Outcome::None(nodes)) = outcome {
             budgets.extend([nodes - 1, nodes, nodes + 1, u32::MAX]);
-            self.calls.solve(self.measure.budget)?;
+            by_crate::solve(self.calls.file, self.measure.budget, self.calls.tally)?;
         }
         budgets.sort_unstable();
         budgets.dedup();

@@ -1,180 +1,146 @@
-//! Buffers for both solvers, and tables to put in them.
+//! What is lent to the library: buffers that lie against a page that nobody may touch, with marked words on their other side, and a file and a list that cannot
+//! be written.
 
-use crate::draft::{below, LIMIT};
+use crate::pages::Pages;
 use crate::random::Random;
-use second::Header;
+use std::rc::Rc;
 
-/// Words before and behind a buffer that no entry may touch.
-const MARGIN: usize = 4;
+/// The largest buffers: a table for a trailer with the greatest counts, a room for it with many words beyond, and a file larger than any sound one.
+const TABLE_WORDS: usize = 1 << 15;
+const ROOM_WORDS: usize = 1 << 17;
+const FILE_BYTES: usize = 1 << 18;
+const LIST_CALLS: usize = 1 << 14;
 
-/// One buffer for the library and one for the second solver, the same in every word, margins included.
+/// How many words beside a buffer are looked at; many of them at times only, since they cost time.
+const BESIDE: [usize; 16] = [8, 8, 8, 8, 8, 8, 8, 8, 8, 8, 8, 8, 8, 64, 64, 2048];
+
+/// The memory that the buffers of one thread lie in.
+pub struct Memory {
+    pub table: Rc<Pages>,
+    pub room: Rc<Pages>,
+    file: Pages,
+    list: Pages,
+}
+
+impl Memory {
+    pub fn new() -> Memory {
+        let [table, room] = [TABLE_WORDS, ROOM_WORDS].map(|words| Rc::new(Pages::new(8 * words)));
+        Memory { table, room, file: Pages::new(FILE_BYTES), list: Pages::new(4 * LIST_CALLS) }
+    }
+
+    /// The file, at any address: it ends where the pages end, or begins a few bytes behind their start. It can only be read.
+    pub fn file(&self, random: &mut Random, file: &[u8]) -> &[u8] {
+        let from = if random.once_in(4) { random.below(9) } else { self.file.bytes() - file.len() };
+        lay(&self.file, from, file)
+    }
+
+    /// The list, with the end of its pages right behind it. It can only be read.
+    pub fn list(&self, list: &[u32]) -> &[u32] {
+        lay(&self.list, self.list.bytes() - 4 * list.len(), list)
+    }
+}
+
+/// Copies the elements to a place of the pages, where they can only be read from then on.
+fn lay<'a, T: Copy>(pages: &'a Pages, from: usize, elements: &[T]) -> &'a [T] {
+    assert!(from + size_of_val(elements) <= pages.bytes(), "it is larger than its pages");
+    pages.allow_writing();
+    // The pages hold the bytes from this place on, and the place fits the type: bytes fit anywhere, and a list ends at the end of its pages.
+    let laid = unsafe {
+        let at = pages.start().add(from).cast::<T>();
+        at.copy_from_nonoverlapping(elements.as_ptr(), elements.len());
+        std::slice::from_raw_parts(at, elements.len())
+    };
+    pages.forbid_writing();
+    laid
+}
+
+/// One buffer for the library and one for the second solver, the same in every word, those beside it included.
 pub struct Lent {
-    ours: Vec<u64>,
+    /// The pages are not freed before the buffer.
+    _pages: Rc<Pages>,
+    /// The library's words, from the first that is looked at.
+    ours: *mut u64,
     theirs: Vec<u64>,
+    /// Where among them the buffer lies.
+    from: usize,
+    words: usize,
 }
 
 impl Lent {
-    pub fn new(random: &mut Random, words: &[u64]) -> Lent {
-        let ours = [random.words(MARGIN), words.to_vec(), random.words(MARGIN)].concat();
-        Lent { theirs: ours.clone(), ours }
+    /// A buffer at the end of the pages with marked words before it, or at their start with marked words behind. There is one buffer at a time.
+    pub fn new(pages: &Rc<Pages>, random: &mut Random, words: &[u64]) -> Lent {
+        let beside = *random.pick(&BESIDE);
+        let margin = random.words(beside);
+        let at_end = random.once_in(2);
+        let (from, theirs) = if at_end { (margin.len(), [&margin, words].concat()) } else { (0, [words, &margin].concat()) };
+        let room = pages.bytes() / 8;
+        assert!(theirs.len() <= room, "the buffer is larger than its pages");
+        // The pages hold that many words from here on.
+        let ours = unsafe {
+            let ours = pages.start().cast::<u64>().add(if at_end { room - theirs.len() } else { 0 });
+            ours.copy_from_nonoverlapping(theirs.as_ptr(), theirs.len());
+            ours
+        };
+        Lent { _pages: pages.clone(), ours, theirs, from, words: words.len() }
     }
 
     /// So many random words: one that is not written shows.
-    pub fn random(random: &mut Random, words: usize) -> Lent {
+    pub fn random(pages: &Rc<Pages>, random: &mut Random, words: usize) -> Lent {
         let words = random.words(words);
-        Lent::new(random, &words)
+        Lent::new(pages, random, &words)
+    }
+
+    /// All that is looked at of the library's words.
+    fn all_ours(&self) -> &[u64] {
+        unsafe { std::slice::from_raw_parts(self.ours, self.theirs.len()) }
     }
 
     pub fn ours(&mut self) -> &mut [u64] {
-        let end = self.ours.len() - MARGIN;
-        &mut self.ours[MARGIN..end]
+        unsafe { std::slice::from_raw_parts_mut(self.ours.add(self.from), self.words) }
     }
 
     pub fn theirs(&mut self) -> &mut [u64] {
-        let end = self.theirs.len() - MARGIN;
-        &mut self.theirs[MARGIN..end]
+        &mut self.theirs[self.from..self.from + self.words]
     }
 
-    /// The first word that differs: its place, negative in the margin before the buffer, ours and theirs.
+    /// The first word that differs: its place, negative before the buffer, ours and theirs.
     pub fn difference(&self) -> Option<(isize, u64, u64)> {
-        let at = (0..self.ours.len()).find(|&i| self.ours[i] != self.theirs[i])?;
-        Some((at as isize - MARGIN as isize, self.ours[at], self.theirs[at]))
-    }
-}
-
-/// A table that a problem with these counts is not refused for: the file's, one near it, or any.
-pub fn table(random: &mut Random, header: &Header, of_file: &[u64]) -> Vec<u64> {
-    match random.below(6) {
-        0 => of_file.to_vec(),
-        1..=3 => near(random, header, of_file),
-        _ => foreign(random, header),
-    }
-}
-
-/// Whether the word at this place of a table holds symbols.
-fn holds_symbols(header: &Header, at: usize) -> bool {
-    at < LIMIT * header.strings && at % LIMIT != 0
-}
-
-/// The file's table with some bits changed, most of them where the file's strings have something.
-fn near(random: &mut Random, header: &Header, of_file: &[u64]) -> Vec<u64> {
-    let mut table = of_file.to_vec();
-    let used: Vec<usize> = (0..table.len()).filter(|&i| table[i] != 0).collect();
-    for _ in 0..*random.pick(&[1, 2, 5, 20]) {
-        if table.is_empty() {
-            break;
+        let ours = self.all_ours();
+        if ours == self.theirs {
+            return None;
         }
-        let at = if used.is_empty() || random.once_in(4) { random.below(table.len()) } else { *random.pick(&used) };
-        let bits = if holds_symbols(header, at) { header.symbols } else { LIMIT };
-        match random.below(8) {
-            0 => table[at] = 0,
-            1 => table[at] = 1 << random.below(bits),
-            2 => table[at] |= random.subset(bits, 4),
-            _ => table[at] ^= 1 << random.below(bits),
-        }
+        let at = (0..ours.len()).find(|&i| ours[i] != self.theirs[i])?;
+        Some((at as isize - self.from as isize, ours[at], self.theirs[at]))
     }
-    table
-}
-
-/// Any words, each row and number with its own density and length.
-fn foreign(random: &mut Random, header: &Header) -> Vec<u64> {
-    let mut table = Vec::new();
-    for _ in 0..header.strings {
-        let longest = *random.pick(&[0, 1, 3, 8, 63]);
-        let share = random.between(1, 8);
-        let symbols = below(header.symbols);
-        table.push(random.subset(longest + 1, share));
-        let untidy = random.once_in(4);
-        for i in 1..LIMIT {
-            let full = share == 8 || random.once_in(16);
-            let filled = i <= longest || untidy && random.once_in(8);
-            table.push(match (filled, full) {
-                (false, _) => 0,
-                (true, true) => symbols,
-                (true, false) => dense(random, share) & symbols,
-            });
-        }
-    }
-    for _ in 0..header.numbers {
-        let share = random.between(0, 8);
-        table.push(dense(random, share));
-    }
-    table
-}
-
-/// A word with about `share` in 8 of its bits.
-fn dense(random: &mut Random, share: usize) -> u64 {
-    match share {
-        0 => 0,
-        1 | 2 => random.word() & random.word() & random.word(),
-        3 => random.word() & random.word(),
-        4 | 5 => random.word(),
-        6 | 7 => random.word() | random.word(),
-        _ => u64::MAX,
-    }
-}
-
-/// A table with a bit at k or above in one symbol word or in many, if there are such words and such bits.
-pub fn with_foreign_symbol(random: &mut Random, header: &Header, of_file: &[u64]) -> Option<Vec<u64>> {
-    if header.strings == 0 || header.symbols == LIMIT {
-        return None;
-    }
-    let mut table = table(random, header, of_file);
-    let last = LIMIT * header.strings - 1;
-    let places = match random.below(4) {
-        0 => vec![1],
-        1 => vec![last],
-        2 => vec![LIMIT * random.below(header.strings) + random.between(1, 63)],
-        _ => (0..=last).filter(|i| i % LIMIT != 0).collect(),
-    };
-    let any = random.between(header.symbols, 63);
-    let bit = *random.pick(&[header.symbols, 63, any]);
-    places.iter().for_each(|&at| table[at] |= 1 << bit);
-    Some(table)
-}
-
-/// A count of words that is not this one: one short, one long, none, or any.
-pub fn wrong_size(random: &mut Random, words: usize) -> usize {
-    let sizes = [words.wrapping_sub(1), words + 1, 0, random.below(2 * words + 3), words + 64, 1040];
-    let wrong: Vec<usize> = sizes.into_iter().filter(|&size| size != words && size <= 4000).collect();
-    *random.pick(&wrong)
 }
 
 #[cfg(test)]
 mod tests {
     use super::*;
 
-    fn header(random: &mut Random) -> Header {
-        Header { symbols: random.between(1, 64), strings: random.below(17), numbers: random.below(17), automata: 0, constraints: 0 }
-    }
-
     #[test]
-    fn tables_are_lendable_or_not() {
-        for index in 0..500 {
-            let random = &mut Random::new(8, index);
-            let header = header(random);
-            let of_file = foreign(random, &header);
-            let lendable = table(random, &header, &of_file);
-            assert_eq!(lendable.len(), header.words());
-            assert!(!second::domain::has_foreign_symbol(&lendable, header.strings, header.symbols));
-            match with_foreign_symbol(random, &header, &of_file) {
-                Some(refused) => assert!(second::domain::has_foreign_symbol(&refused, header.strings, header.symbols)),
-                None => assert!(header.strings == 0 || header.symbols == 64),
-            }
-            assert_ne!(wrong_size(random, header.words()), header.words());
+    fn a_difference_is_seen_beside_the_buffer_too() {
+        let (random, pages) = (&mut Random::new(9, 0), Rc::new(Pages::new(1 << 16)));
+        for _ in 0..20 {
+            let mut lent = Lent::random(&pages, random, 10);
+            assert_eq!(lent.difference(), None);
+            let beside = if lent.from == 0 { 17 } else { -8 };
+            unsafe { *lent.ours.offset(beside + lent.from as isize) ^= 1 };
+            assert_eq!(lent.difference().map(|(place, ..)| place), Some(beside));
+            unsafe { *lent.ours.offset(beside + lent.from as isize) ^= 1 };
+            lent.ours()[3] ^= 1;
+            assert_eq!(lent.difference().map(|(place, ..)| place), Some(3));
         }
     }
 
     #[test]
-    fn a_difference_is_seen_in_the_margins_too() {
-        let random = &mut Random::new(9, 0);
-        let mut lent = Lent::random(random, 10);
-        assert_eq!(lent.difference(), None);
-        lent.ours[MARGIN + 10] ^= 1;
-        assert_eq!(lent.difference().map(|(place, ..)| place), Some(10));
-        lent.ours()[3] ^= 1;
-        assert_eq!(lent.difference().map(|(place, ..)| place), Some(3));
-        lent.ours[0] ^= 1;
-        assert_eq!(lent.difference().map(|(place, ..)| place), Some(-4));
+    fn a_file_and_a_list_are_laid_as_they_are() {
+        let (random, memory) = (&mut Random::new(10, 0), Memory::new());
+        for size in [0, 1, 24, 1000, 150_000] {
+            let file: Vec<u8> = (0..size).map(|_| random.byte()).collect();
+            assert_eq!(memory.file(random, &file), file);
+            let list: Vec<u32> = (0..size.min(9000)).map(|n| n as u32).collect();
+            assert_eq!(memory.list(&list), list);
+        }
     }
 }

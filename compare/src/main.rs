@@ -4,8 +4,10 @@
 //!
 //! Each case is one problem file with many calls of every entry; it is made from the seed and its index alone, so that `--only` repeats it. Some cases also go
 //! through the program at PATH. A disagreement is printed, its file is left in target/compare-failure.problem, and the exit status is 1; so it is if some
-//! refusal, outcome, kind of case or kind of constraint never came up. Should the library end the process, `--threads 1 --trace` says in which case.
+//! refusal, outcome, kind of case or kind of constraint never came up. Should the library end the process, as by touching
+//! a page beside what it was lent, that is printed as a disagreement too; its file `--only` leaves.
 
+mod by_crate;
 mod calls;
 mod case;
 mod check;
@@ -13,21 +15,29 @@ mod damage;
 mod disagreement;
 mod draft;
 mod drive;
+mod ended;
+/// The declarations of the crate over the archive: called as they stand, they show what a refused call writes.
+#[path = "../../bindings/rust/src/entries.rs"]
+mod entries;
 mod generate;
 mod hard;
 mod kind;
 mod lent;
+mod marked;
 mod measure;
 mod noise;
+mod pages;
 mod program;
 mod random;
 mod rules;
 mod solution;
+mod tables;
 mod tally;
 mod templates;
 
 use case::Case;
-use disagreement::Disagreement;
+use disagreement::{Compared, Disagreement};
+use lent::Memory;
 use std::panic::{catch_unwind, AssertUnwindSafe};
 use std::path::PathBuf;
 use std::process::ExitCode;
@@ -81,7 +91,7 @@ struct Run {
 impl Run {
     /// Takes cases until there are no more, or one has failed.
     fn work(&self, given: &Arguments) {
-        let mut tally = Tally::default();
+        let (mut tally, memory) = (Tally::default(), Memory::new());
         while !self.failed.load(Ordering::Relaxed) {
             let index = self.next.fetch_add(1, Ordering::Relaxed);
             if index >= given.cases {
@@ -90,7 +100,7 @@ impl Run {
             if given.trace || index > 0 && index % 100_000 == 0 {
                 eprintln!("compare: case {index} of {}", given.cases);
             }
-            if let Err(disagreement) = compared(given, index, &mut tally) {
+            if let Err(disagreement) = compared(given, index, &memory, &mut tally) {
                 self.failed.store(true, Ordering::Relaxed);
                 self.failures.lock().expect("no thread panics").push((index, disagreement));
             }
@@ -100,8 +110,12 @@ impl Run {
 }
 
 /// One case. The library cannot panic; the second solver could, and that counts as a disagreement.
-fn compared(given: &Arguments, index: u64, tally: &mut Tally) -> Result<(), Disagreement> {
-    let compare = || Case::new(given.seed, index).compare(given.program.as_deref(), tally);
+fn compared(given: &Arguments, index: u64, memory: &Memory, tally: &mut Tally) -> Compared<()> {
+    let compare = || {
+        let mut case = Case::new(given.seed, index);
+        ended::at_case(index, case.kind.name());
+        case.compare(given.program.as_deref(), memory, tally)
+    };
     catch_unwind(AssertUnwindSafe(compare)).unwrap_or_else(|_| {
         let theirs = "the second solver, or the comparison, panicked: see above".into();
         Err(Disagreement { call: "some call".into(), ours: String::new(), theirs, word: None })
@@ -120,15 +134,21 @@ fn report(given: &Arguments, index: u64, disagreement: &Disagreement) {
     if let Some(word) = word {
         println!("  first difference (proved, second solver): {word}");
     }
-    match std::fs::create_dir_all("target").and_then(|()| std::fs::write(FAILURE, &case.file)) {
-        Ok(()) => println!("  file:          {FAILURE}, {} bytes", case.file.len()),
-        Err(trouble) => println!("  file:          {FAILURE} cannot be written: {trouble}"),
+    println!("  file:          {}", leave(&case.file));
+}
+
+/// Leaves a file that is to be looked at; answers where, or why not.
+fn leave(file: &[u8]) -> String {
+    match std::fs::create_dir_all("target").and_then(|()| std::fs::write(FAILURE, file)) {
+        Ok(()) => format!("{FAILURE}, {} bytes", file.len()),
+        Err(trouble) => format!("{FAILURE} cannot be written: {trouble}"),
     }
 }
 
-/// One case again.
+/// One case again. Its file is left first, since the library may end the process.
 fn only(given: &Arguments, index: u64) -> bool {
-    match compared(given, index, &mut Tally::default()) {
+    leave(&Case::new(given.seed, index).file);
+    match compared(given, index, &Memory::new(), &mut Tally::default()) {
         Ok(()) => println!("compare: case {index} of seed {} agrees", given.seed),
         Err(ref disagreement) => {
             report(given, index, disagreement);
@@ -168,6 +188,7 @@ fn main() -> ExitCode {
             return ExitCode::from(2);
         }
     };
+    ended::watch(given.seed);
     let agree = match given.only {
         Some(index) => only(&given, index),
         None => all(&given),

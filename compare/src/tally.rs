@@ -13,11 +13,11 @@ pub struct Tally {
     /// Cases by their kind.
     pub kinds: [u64; Kind::ALL.len()],
     /// Calls by their entry, in the order of the names above.
-    pub entries: [u64; 7],
+    entries: [u64; 7],
     /// Searches by their outcome.
     pub outcomes: [u64; 3],
     /// Refused calls by their number; none has the number 0.
-    pub refusals: [u64; 14],
+    refusals: [u64; 14],
     /// Steps that struck something, by the kind of their constraint; trimming is 0.
     pub struck: [u64; 8],
     /// Steps that were also held against trying every choice.
@@ -27,6 +27,14 @@ pub struct Tally {
 }
 
 impl Tally {
+    /// A call of this entry, with its refusal.
+    pub fn call(&mut self, entry: usize, refused: Option<u8>) {
+        self.entries[entry] += 1;
+        if let Some(number) = refused {
+            self.refusals[usize::from(number)] += 1;
+        }
+    }
+
     pub fn add(&mut self, other: &Tally) {
         let pairs = [
             (&mut self.kinds[..], &other.kinds[..]),

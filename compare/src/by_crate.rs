@@ -1,0 +1,79 @@
+//! The functions of the Rust crate over the archive, each once on a file.
+
+use crate::disagreement::{Compared, Disagreement};
+use crate::random::Random;
+use crate::solution::values;
+use crate::tally::Tally;
+use cobleskeg::{Answer, Counts, Outcome, Refusal, Settled, SETTLE};
+use std::fmt::Debug;
+
+/// What a function of the crate answers, and the table that it leaves.
+type Given<T> = (Result<T, u8>, Vec<u64>);
+
+/// Every function but `solve`, on this table.
+pub fn functions(file: &[u8], random: &mut Random, table: &[u64]) -> Compared<()> {
+    let j = random.below(20);
+    same("read", &numbered(cobleskeg::read(file)), &second::read(file).map(counts))?;
+    same("unpack", &on(table, |lent| numbered(cobleskeg::unpack(file, lent))), &on(table, |lent| second::unpack(file, lent)))?;
+    same("step", &on(table, |lent| numbered(cobleskeg::step(file, j, lent))), &on(table, |lent| second::step(file, j as u64, lent)))?;
+    let settled = |(rounds, every_value)| Settled { rounds, every_value };
+    same("settle", &on(table, |lent| numbered(cobleskeg::settle(file, lent))), &on(table, |lent| second::settle(file, lent).map(settled)))?;
+    let room = random.words(3 * table.len());
+    let ours = on(table, |lent| numbered(cobleskeg::search(file, 3, &mut room.clone(), lent)));
+    same("search", &ours, &on(table, |lent| second::search(file, 3, &mut room.clone(), lent).map(outcome)))?;
+    let ours = on(table, |lent| Ok(cobleskeg::perform(file, &[j as u32, SETTLE], lent)));
+    let theirs = on(table, |lent| {
+        let _refused = (second::step(file, j as u64, lent), second::settle(file, lent));
+        Ok(())
+    });
+    same("perform", &ours, &theirs)
+}
+
+/// The answer in strings and numbers, for a file that is not refused.
+pub fn solve(file: &[u8], budget: u32, tally: &mut Tally) -> Compared<()> {
+    let ours = numbered(cobleskeg::solve(file, budget));
+    let theirs = second::read(file).and_then(|header| {
+        let (mut room, mut table) = (vec![0; 3 * header.words()], vec![0; header.words()]);
+        Ok(match second::search(file, budget, &mut room, &mut table)? {
+            second::Outcome::Found(nodes) => {
+                let (strings, numbers) = values(&table, header.strings);
+                Answer::Found { nodes, strings, numbers }
+            }
+            second::Outcome::None(nodes) => Answer::None { nodes },
+            second::Outcome::Spent(nodes) => Answer::Spent { nodes },
+        })
+    });
+    tally.call(6, theirs.as_ref().err().copied());
+    same(&format!("solve with budget {budget}"), &ours, &theirs)
+}
+
+fn same<T: PartialEq + Debug>(call: &str, ours: &T, theirs: &T) -> Compared<()> {
+    if ours == theirs {
+        return Ok(());
+    }
+    Err(Disagreement { call: format!("{call}, by the Rust crate"), ours: format!("{ours:?}"), theirs: format!("{theirs:?}"), word: None })
+}
+
+/// Calls on a copy of the table.
+fn on<T>(table: &[u64], call: impl Fn(&mut [u64]) -> Result<T, u8>) -> Given<T> {
+    let mut lent = table.to_vec();
+    let answer = call(&mut lent);
+    (answer, lent)
+}
+
+fn numbered<T>(answer: Result<T, Refusal>) -> Result<T, u8> {
+    answer.map_err(Refusal::number)
+}
+
+fn counts(header: second::Header) -> Counts {
+    let second::Header { symbols, strings, numbers, automata, constraints } = header;
+    Counts { symbols, strings, numbers, automata, constraints }
+}
+
+fn outcome(theirs: second::Outcome) -> Outcome {
+    match theirs {
+        second::Outcome::Found(nodes) => Outcome::Found(nodes),
+        second::Outcome::None(nodes) => Outcome::None(nodes),
+        second::Outcome::Spent(nodes) => Outcome::Spent(nodes),
+    }
+}
