@@ -6,7 +6,7 @@ use crate::entries;
 use crate::lent::{Lent, Memory};
 use crate::marked::{Held, Marked};
 use crate::random::Random;
-use crate::tally::Tally;
+use crate::tally::{Event, Tally};
 use cobleskeg::SETTLE;
 use second::relations::Relation;
 use second::Outcome;
@@ -46,6 +46,7 @@ impl Calls<'_> {
         let wanted = theirs.ok().map(|header| [header.symbols, header.strings, header.numbers, header.automata, header.constraints]);
         let names = ["symbols", "strings", "numbers", "automata", "constraints"];
         let results: Vec<Held> = (0..5).map(|at| counts[at].held(names[at], wanted.map(|wanted| wanted[at]))).collect();
+        self.tally.file(file.len(), theirs.err());
         self.agree(0, || "read".into(), ours, theirs.err(), &results, &[])
     }
 
@@ -100,11 +101,24 @@ impl Calls<'_> {
         let wanted = theirs.ok();
         let results = [rounds.held("rounds", wanted.map(|(rounds, _)| rounds)), every_value.held("every_value", wanted.map(|(_, every)| every.into()))];
         self.agree(3, || format!("settle {} words", words.len()), ours, theirs.err(), &results, &[&table])?;
+        self.tally.rounds(wanted.map_or(0, |(rounds, _)| rounds));
         Ok(table.theirs().to_vec())
     }
 
     /// Answers the outcome, or nothing where it is refused.
     pub fn search(&mut self, budget: u32, room_words: usize, words: usize) -> Compared<Option<Outcome>> {
+        let file = self.file;
+        self.search_as(budget, room_words, words, |room, table| second::search(file, budget, room, table))
+    }
+
+    /// A search that is held against what the function does to room and answer table.
+    pub fn search_as(
+        &mut self,
+        budget: u32,
+        room_words: usize,
+        words: usize,
+        second: impl Fn(&mut [u64], &mut [u64]) -> Result<Outcome, u8>,
+    ) -> Compared<Option<Outcome>> {
         let file = self.file;
         let mut room = Lent::random(&self.memory.room, self.random, room_words);
         let mut table = Lent::random(&self.memory.table, self.random, words);
@@ -112,13 +126,14 @@ impl Calls<'_> {
         let (at, to) = (room.ours().as_mut_ptr(), table.ours().as_mut_ptr());
         ended::at_entry("search");
         let ours = unsafe { entries::cobleskeg_search(file.as_ptr(), file.len(), budget, at, room_words, to, words, how.pointer(), nodes.pointer()) };
-        let theirs = second::search(file, budget, room.theirs(), table.theirs());
+        let theirs = second(room.theirs(), table.theirs());
         let wanted = theirs.ok().map(outcome);
         let results = [how.held("outcome", wanted.map(|(how, _)| how)), nodes.held("nodes", wanted.map(|(_, nodes)| nodes))];
         let call = || format!("search with budget {budget}, {room_words} words of room, {words} words for the answer");
         self.agree(4, call, ours, theirs.err(), &results, &[&table, &room])?;
-        if let Some((how, _)) = wanted {
-            self.tally.outcomes[usize::from(how) - 1] += 1;
+        self.tally.search(budget, theirs.ok());
+        if room_words >= 3 * words + 1000 && theirs.is_ok() {
+            self.tally.came_up(Event::WideRoom);
         }
         Ok(theirs.ok())
     }
@@ -136,6 +151,7 @@ impl Calls<'_> {
                 j => second::step(file, u64::from(j), table.theirs()).err(),
             };
         }
+        self.tally.list(list.len());
         self.agree(5, || format!("perform {list:?} on {} words", words.len()), 0, None, &[], &[&table])
     }
 

@@ -1,16 +1,19 @@
 //! One case: a problem file made from a seed and an index alone.
 
 use crate::damage::{self, Damage};
-use crate::kind::Kind;
+use crate::draft::Draft;
+use crate::kind::{Kind, COSTLY_EVERY};
 use crate::measure::Measure;
 use crate::random::Random;
-use crate::{generate, hard, noise, templates};
+use crate::trees::{self, Known};
+use crate::{generate, hard, late, noise, oversized, templates};
 use std::sync::OnceLock;
 
-/// The kind of a case, its file, and how much of it is called.
+/// The kind of a case, its file, what is known of its tree, how much of it is called, and the random words for that.
 pub struct Case {
     pub kind: Kind,
     pub file: Vec<u8>,
+    pub known: Option<Known>,
     pub measure: Measure,
     pub random: Random,
 }
@@ -19,10 +22,18 @@ impl Case {
     pub fn new(seed: u64, index: u64) -> Case {
         let mut random = Random::new(seed, index);
         let kind = Kind::of(index, &mut random);
-        let file = file(kind, &mut random);
+        let (file, known) = match kind {
+            Kind::Tree => with_tree(trees::known(&mut random)),
+            Kind::Full => with_tree(trees::full(&mut random, index / COSTLY_EVERY)),
+            _ => (file(kind, &mut random), None),
+        };
         let measure = Measure::of(kind, &mut random);
-        Case { kind, file, measure, random }
+        Case { kind, file, known, measure, random }
     }
+}
+
+fn with_tree((draft, known): (Draft, Known)) -> (Vec<u8>, Option<Known>) {
+    (draft.bytes(), Some(known))
 }
 
 fn file(kind: Kind, random: &mut Random) -> Vec<u8> {
@@ -32,24 +43,27 @@ fn file(kind: Kind, random: &mut Random) -> Vec<u8> {
         Kind::Limits => generate::limits(random).bytes(),
         Kind::Templates => templates::clash(random).bytes(),
         Kind::Hard => hard::hard(random).bytes(),
-        Kind::Damaged => damaged(random, false),
-        Kind::TwiceDamaged => damaged(random, true),
+        Kind::Late => late::difference(random).bytes(),
+        Kind::Chain => late::chain(random).bytes(),
+        Kind::Damaged => damaged(random, damage::sound, false),
+        Kind::TwiceDamaged => damaged(random, damage::sound, true),
+        Kind::DamagedLimits => {
+            let twice = random.once_in(4);
+            damaged(random, damage::sound_at_limits, twice)
+        }
         Kind::Changed => changed(random),
         Kind::Noise => noise::bytes(random),
+        Kind::Oversized => oversized::bytes(random),
         Kind::Endless => hard::endless().bytes(),
+        Kind::Tree | Kind::Full => unreachable!("a known tree has its own way"),
     }
 }
 
 /// A sound problem with one damage, or with two that have different refusals.
-fn damaged(random: &mut Random, twice: bool) -> Vec<u8> {
+fn damaged(random: &mut Random, sound: fn(&mut Random) -> Draft, twice: bool) -> Vec<u8> {
     static DAMAGES: OnceLock<Vec<Damage>> = OnceLock::new();
-    let all = DAMAGES.get_or_init(damage::all);
-    let mut damages = vec![random.pick(all)];
-    if twice {
-        let others: Vec<&Damage> = all.iter().filter(|other| other.refusal != damages[0].refusal).collect();
-        damages.push(*random.pick(&others));
-    }
-    let draft = damage::sound(random);
+    let draft = sound(random);
+    let damages = damage::picked(random, DAMAGES.get_or_init(damage::all), &draft, twice);
     damage::damaged(random, draft, damages)
 }
 

@@ -7,7 +7,7 @@ use crate::drive::Drive;
 use crate::kind::Kind;
 use crate::lent::Memory;
 use crate::program;
-use crate::tally::Tally;
+use crate::tally::{Event, Tally};
 use second::Outcome;
 use std::path::Path;
 
@@ -21,27 +21,42 @@ impl Case {
         let file = memory.file(&mut self.random, &self.file);
         let (random, relations, try_choices) = (&mut self.random, Vec::new(), self.measure.try_choices);
         let calls = Calls { file, memory, random, tally, relations, try_choices };
-        let outcome = Drive { calls, measure: self.measure }.run()?;
+        let outcome = Drive { calls, measure: self.measure, known: self.known.as_ref() }.run()?;
         if file != self.file {
             return Err(Disagreement { call: "all".into(), ours: "the file is changed".into(), theirs: String::new(), word: None });
         }
-        // A search that did not end may take long within the program's budget.
-        let ended = !matches!(outcome, Some(Outcome::Spent(_))) || self.kind == Kind::Endless;
+        let spent = matches!(outcome, Some(Outcome::Spent(_)));
         match program {
-            Some(program) if ended && (self.random.once_in(PROGRAM_SHARE) || self.kind == Kind::Endless) => self.run(program, tally),
+            Some(program) if self.goes_through_program(spent) => self.run(program, spent, tally),
             _ => Ok(()),
         }
     }
 
-    fn run(&mut self, program: &Path, tally: &mut Tally) -> Compared<()> {
-        let input = if self.kind == Kind::Endless { self.file.clone() } else { program::input(&mut self.random, &self.file) };
-        let theirs = program::lines(&input);
-        let ours = program::printed(program, &input).unwrap_or_else(|trouble| format!("{trouble}"));
+    /// A search that did not end may take long within the program's budget, and in large problems too long.
+    fn goes_through_program(&mut self, spent: bool) -> bool {
+        match self.kind {
+            Kind::Endless | Kind::Tree | Kind::Full => true,
+            Kind::Small | Kind::Hard if spent => self.random.once_in(PROGRAM_SHARE),
+            _ => !spent && self.random.once_in(PROGRAM_SHARE),
+        }
+    }
+
+    fn run(&mut self, program: &Path, spent: bool, tally: &mut Tally) -> Compared<()> {
+        let input = if self.kind == Kind::Endless || self.known.is_some() { self.file.clone() } else { program::input(&mut self.random, &self.file) };
+        let cuts = program::cuts(&mut self.random, input.len());
+        let theirs = self.known.as_ref().map_or_else(|| program::lines(&input), program::known_lines);
+        let ours = program::printed(program, &input, &cuts).unwrap_or_else(|trouble| format!("{trouble}"));
         tally.runs += 1;
+        if !cuts.is_empty() {
+            tally.came_up(Event::Pieces);
+        }
+        if spent {
+            tally.came_up(Event::SpentProgram);
+        }
         if ours == theirs {
             return Ok(());
         }
-        let call = format!("program, {} bytes of input", input.len());
+        let call = format!("program, {} bytes of input, cut at {cuts:?}", input.len());
         Err(Disagreement { call, ours: format!("{ours:?}"), theirs: format!("{theirs:?}"), word: None })
     }
 }

@@ -4,12 +4,12 @@ mod change;
 mod parts;
 mod trailer;
 
-use crate::draft::{Draft, LIMIT, NOTHING};
+use crate::draft::{below, Draft, LIMIT, NOTHING};
 use crate::generate::record;
 use crate::random::Random;
 use crate::rules;
-use change::Change;
 pub use change::Damage;
+use change::{Change, MOST_RECORDS};
 
 /// A problem that every damage can be done to: there is something of each sort, and no count is at its limit.
 pub fn sound(random: &mut Random) -> Draft {
@@ -32,6 +32,36 @@ pub fn sound(random: &mut Random) -> Draft {
         draft.records.extend(record(random, kind, strings, numbers, automata));
     }
     draft
+}
+
+/// A problem with most counts at their limit, and some one below.
+pub fn sound_at_limits(random: &mut Random) -> Draft {
+    let symbols = *random.pick(&[64, 63, 63, 62]);
+    let mut draft = Draft::over(symbols);
+    let [strings, numbers, automata, constraints] = [16, 16, 8, MOST_RECORDS].map(|limit| limit - usize::from(random.once_in(4)));
+    for _ in 0..strings {
+        draft.rows.push(std::array::from_fn(|place| random.word() & if place == 0 { u64::MAX } else { below(symbols) }));
+    }
+    draft.numbers = random.words(numbers);
+    for _ in 0..automata {
+        let states = *random.pick(&[32, 32, 32, 31, 1]);
+        draft.machines.push(rules::any(random, symbols, states));
+    }
+    for at in 0..constraints {
+        draft.records.extend(record(random, 1 + (at % 7) as u8, strings, numbers, automata));
+    }
+    draft
+}
+
+/// One of the damages that can be done to the problem, or two with different refusals.
+pub fn picked<'a>(random: &mut Random, all: &'a [Damage], draft: &Draft, twice: bool) -> Vec<&'a Damage> {
+    let fitting: Vec<&Damage> = all.iter().filter(|damage| (damage.fits)(draft)).collect();
+    let one = *random.pick(&fitting);
+    let others: Vec<&Damage> = fitting.into_iter().filter(|other| twice && other.refusal != one.refusal).collect();
+    if others.is_empty() {
+        return vec![one];
+    }
+    vec![one, *random.pick(&others)]
 }
 
 /// The file with these damages. Those of a higher refusal come first, so that none undoes what a lower one did.
@@ -78,17 +108,32 @@ mod tests {
     }
 
     #[test]
+    fn a_problem_at_the_limits_is_accepted() {
+        let mut at_limits = [0; 5];
+        for index in 0..100 {
+            let draft = sound_at_limits(&mut Random::new(5, index));
+            assert!(second::read(&draft.bytes()).is_ok(), "index {index}");
+            let reached = [draft.symbols == 64, draft.rows.len() == 16, draft.numbers.len() == 16, draft.machines.len() == 8, draft.records.len() == 64];
+            at_limits.iter_mut().zip(reached).for_each(|(count, reached)| *count += i32::from(reached));
+        }
+        assert!(at_limits.iter().all(|&count| count > 10), "{at_limits:?}");
+    }
+
+    #[test]
     fn each_damage_alone_has_its_refusal() {
         let damages = all();
         for refusal in 1..=8 {
             assert!(damages.iter().filter(|damage| damage.refusal == refusal).count() >= 4, "refusal {refusal}");
         }
         for (at, damage) in damages.iter().enumerate() {
-            for index in 0..100 {
+            for index in 0..40 {
                 let random = &mut Random::new(6 + at as u64, index);
-                let draft = sound(random);
-                let file = damaged(random, draft, vec![damage]);
-                assert_eq!(second::read(&file), Err(damage.refusal), "damage {at}, index {index}");
+                for draft in [sound(random), sound_at_limits(random)] {
+                    if (damage.fits)(&draft) {
+                        let file = damaged(random, draft, vec![damage]);
+                        assert_eq!(second::read(&file), Err(damage.refusal), "damage {at}, index {index}");
+                    }
+                }
             }
         }
     }
@@ -99,9 +144,12 @@ mod tests {
         for one in &damages {
             for other in damages.iter().filter(|other| one.refusal < other.refusal) {
                 let random = &mut Random::new(7, 0);
-                let draft = sound(random);
-                let file = damaged(random, draft, vec![one, other]);
-                assert_eq!(second::read(&file), Err(one.refusal), "with {}", other.refusal);
+                for draft in [sound(random), sound_at_limits(random)] {
+                    if (one.fits)(&draft) && (other.fits)(&draft) {
+                        let file = damaged(random, draft, vec![one, other]);
+                        assert_eq!(second::read(&file), Err(one.refusal), "with {}", other.refusal);
+                    }
+                }
             }
         }
     }

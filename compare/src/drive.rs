@@ -2,23 +2,29 @@
 
 use crate::by_crate;
 use crate::calls::Calls;
-use crate::disagreement::Compared;
+use crate::disagreement::{Compared, Disagreement};
 use crate::measure::Measure;
 use crate::tables;
+use crate::trees::Known;
 use cobleskeg::SETTLE;
 use second::file::Problem;
 use second::{Header, Outcome};
 
 /// One problem in so many also goes through the functions of the Rust crate.
 const CRATE_SHARE: usize = 8;
+/// One list in so many is long, where the measure allows it.
+const LONG_SHARE: usize = 400;
+const LONGEST_LIST: usize = 2000;
 
 pub struct Drive<'a> {
     pub calls: Calls<'a>,
     pub measure: Measure,
+    /// What the search comes to, where a formula says it.
+    pub known: Option<&'a Known>,
 }
 
 impl Drive<'_> {
-    /// All calls on the file. Answers what Search comes to within the larger budget, or nothing where the file is refused.
+    /// All calls on the file. Answers what Search comes to within the larger budget, or in the whole tree where it is known; nothing where the file is refused.
     pub fn run(&mut self) -> Compared<Option<Outcome>> {
         self.calls.read()?;
         let Ok(problem) = Problem::parse(self.calls.file) else {
@@ -34,7 +40,10 @@ impl Drive<'_> {
             let table = tables::table(self.calls.random, &problem.header, &problem.table);
             by_crate::functions(self.calls.file, self.calls.random, &table)?;
         }
-        self.searches(problem.table.len())
+        match self.known {
+            Some(known) => self.known_tree(known, problem.table.len()),
+            None => self.searches(problem.table.len()),
+        }
     }
 
     /// A refused file is refused by every entry, whatever is lent.
@@ -76,11 +85,15 @@ impl Drive<'_> {
         Ok(())
     }
 
-    /// The file's table, and any; then the file's settled one with a word decided, as a search goes on.
+    /// The file's table, and any; then the file's settled one with a variable that has no value, and with a word decided, as a search goes on.
     fn settles(&mut self, header: &Header, of_file: &[u64]) -> Compared<()> {
         let other = tables::table(self.calls.random, header, of_file);
         self.calls.settle(&other)?;
         let mut table = self.calls.settle(of_file)?;
+        if self.calls.random.once_in(4) {
+            let without = tables::without_value(self.calls.random, header, &table);
+            self.calls.settle(&without)?;
+        }
         let open: Vec<usize> = (0..table.len()).filter(|&i| table[i].count_ones() > 1).collect();
         if !open.is_empty() {
             let at = *self.calls.random.pick(&open);
@@ -95,9 +108,7 @@ impl Drive<'_> {
     fn lists(&mut self, header: &Header, of_file: &[u64]) -> Compared<()> {
         let steps = header.constraints + header.strings;
         for _ in 0..2 {
-            let longest = *self.calls.random.pick(&[0, 1, 3, 6, 12, 30, 400]);
-            let count = self.calls.random.below(longest + 1).min(self.measure.calls);
-            let list: Vec<u32> = (0..count).map(|_| self.listed(steps)).collect();
+            let list = self.list(steps);
             let table = match self.calls.random.below(8) {
                 0 => {
                     let words = tables::wrong_size(self.calls.random, of_file.len());
@@ -110,6 +121,20 @@ impl Drive<'_> {
             self.calls.perform(&list, &table)?;
         }
         Ok(())
+    }
+
+    /// A list of calls. A long one strikes something only in its last call, as far as that can be: before it are one step and numbers that are none.
+    fn list(&mut self, steps: usize) -> Vec<u32> {
+        let longest = *self.calls.random.pick(&[0, 1, 3, 6, 12, 30, 400]).min(&self.measure.calls);
+        if self.measure.calls < LONGEST_LIST || !self.calls.random.once_in(LONG_SHARE) {
+            let count = self.calls.random.below(longest + 1);
+            return (0..count).map(|_| self.listed(steps)).collect();
+        }
+        let count = self.calls.random.between(400, LONGEST_LIST - 1);
+        let one = self.calls.random.below(steps + 1) as u32;
+        let mut list: Vec<u32> = (0..count).map(|_| *self.calls.random.pick(&[one, steps as u32, SETTLE - 1])).collect();
+        list.push(SETTLE);
+        list
     }
 
     /// A number for a list: mostly a step.
@@ -158,9 +183,43 @@ impl Drive<'_> {
         budgets.sort_unstable();
         budgets.dedup();
         for budget in budgets {
-            let room = 3 * words + *self.calls.random.pick(&[0, 0, 1, 7, 100]);
+            let room = 3 * words + self.beyond();
             self.calls.search(budget, room, words)?;
         }
         Ok(outcome)
+    }
+
+    /// How many words the room has beyond those that are needed: at times thousands.
+    fn beyond(&mut self) -> usize {
+        let random = &mut *self.calls.random;
+        if random.once_in(64) {
+            return random.between(1000, 9000);
+        }
+        *random.pick(&[0, 0, 1, 7, 100])
+    }
+
+    /// A tree whose count and solution a formula gives: the second solver is held to it once, and the library with budgets at the count, beside it and
+    /// elsewhere.
+    fn known_tree(&mut self, known: &Known, words: usize) -> Compared<Option<Outcome>> {
+        let answer = known.table();
+        let (mut room, mut table) = (vec![1; 3 * words], vec![0; words]);
+        let theirs = second::search(self.calls.file, known.nodes, &mut room, &mut table);
+        if theirs != Ok(known.outcome(known.nodes)) || answer.as_ref().is_some_and(|answer| *answer != table) {
+            let formula = format!("{:?}, {:?}", known.outcome(known.nodes), known.solution);
+            return Err(Disagreement { call: "the tree by its formula".into(), ours: formula, theirs: format!("{theirs:?}"), word: None });
+        }
+        let elsewhere = self.calls.random.between(3001, 65_536) as u32;
+        for budget in [known.nodes, known.nodes - 1, known.nodes + 1, elsewhere] {
+            let room = 3 * words + self.beyond();
+            self.calls.search_as(budget, room, words, |room, table| {
+                room[..3 * words].fill(0);
+                let outcome = known.outcome(budget);
+                if let (Outcome::Found(_), Some(answer)) = (outcome, &answer) {
+                    table.copy_from_slice(answer);
+                }
+                Ok(outcome)
+            })?;
+        }
+        Ok(Some(known.outcome(u32::MAX)))
     }
 }

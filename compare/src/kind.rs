@@ -2,27 +2,49 @@
 
 use crate::random::Random;
 
-/// One case in so many is a search that spends the program's whole budget. The first case is one.
-const ENDLESS_EVERY: u64 = 5000;
+/// One case in so many is a tree of about as many nodes as the program's budget, and one in twice as many a search that spends that budget.
+pub const COSTLY_EVERY: u64 = 5000;
 
-#[derive(Clone, Copy, PartialEq)]
+#[derive(Clone, Copy, PartialEq, Debug)]
 pub enum Kind {
     Small,
     Large,
     Limits,
     Templates,
     Hard,
+    Late,
+    Chain,
+    Tree,
     Damaged,
     TwiceDamaged,
+    DamagedLimits,
     Changed,
     Noise,
+    Oversized,
     Endless,
+    Full,
 }
 
 impl Kind {
     /// In the order above.
-    pub const ALL: [Kind; 10] =
-        [Kind::Small, Kind::Large, Kind::Limits, Kind::Templates, Kind::Hard, Kind::Damaged, Kind::TwiceDamaged, Kind::Changed, Kind::Noise, Kind::Endless];
+    pub const ALL: [Kind; 16] = [
+        Kind::Small,
+        Kind::Large,
+        Kind::Limits,
+        Kind::Templates,
+        Kind::Hard,
+        Kind::Late,
+        Kind::Chain,
+        Kind::Tree,
+        Kind::Damaged,
+        Kind::TwiceDamaged,
+        Kind::DamagedLimits,
+        Kind::Changed,
+        Kind::Noise,
+        Kind::Oversized,
+        Kind::Endless,
+        Kind::Full,
+    ];
 
     pub fn name(self) -> &'static str {
         match self {
@@ -31,34 +53,46 @@ impl Kind {
             Kind::Limits => "at the limits",
             Kind::Templates => "templates",
             Kind::Hard => "hard",
+            Kind::Late => "late differences",
+            Kind::Chain => "long chains",
+            Kind::Tree => "known trees",
             Kind::Damaged => "damaged",
             Kind::TwiceDamaged => "damaged twice",
+            Kind::DamagedLimits => "damaged at the limits",
             Kind::Changed => "bytes changed",
             Kind::Noise => "random bytes",
+            Kind::Oversized => "larger than any file",
             Kind::Endless => "endless",
+            Kind::Full => "full trees",
         }
     }
 
     /// In how many of 10,000 cases it is picked. The costly kinds are rare, since one of them takes as long as hundreds of small ones.
     fn share(self) -> usize {
         match self {
-            Kind::Small => 4640,
+            Kind::Small => 3680,
             Kind::Large => 250,
             Kind::Limits => 70,
             Kind::Templates => 700,
             Kind::Hard => 200,
-            Kind::Damaged => 2300,
+            Kind::Late => 500,
+            Kind::Chain => 30,
+            Kind::Tree => 10,
+            Kind::Damaged => 1700,
             Kind::TwiceDamaged => 800,
+            Kind::DamagedLimits => 900,
             Kind::Changed => 640,
             Kind::Noise => 400,
-            Kind::Endless => 0,
+            Kind::Oversized => 120,
+            Kind::Endless | Kind::Full => 0,
         }
     }
 
     /// The kind of the case with this index.
     pub fn of(index: u64, random: &mut Random) -> Kind {
-        match index % ENDLESS_EVERY {
-            0 => Kind::Endless,
+        match (index % COSTLY_EVERY, index / COSTLY_EVERY % 2) {
+            (1000, _) => Kind::Full,
+            (3000, 0) => Kind::Endless,
             _ => Kind::pick(random),
         }
     }

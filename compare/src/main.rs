@@ -4,8 +4,8 @@
 //!
 //! Each case is one problem file with many calls of every entry; it is made from the seed and its index alone, so that `--only` repeats it. Some cases also go
 //! through the program at PATH. A disagreement is printed, its file is left in target/compare-failure.problem, and the exit status is 1; so it is if some
-//! refusal, outcome, kind of case or kind of constraint never came up. Should the library end the process, as by touching
-//! a page beside what it was lent, that is printed as a disagreement too; its file `--only` leaves.
+//! refusal, outcome, kind of case, kind of constraint, or event that is far from most cases never came up. Should the library end the process, as by touching
+//! a page beside what it was lent, that is printed as a disagreement too; `--only` then leaves the file.
 
 mod by_crate;
 mod calls;
@@ -22,10 +22,12 @@ mod entries;
 mod generate;
 mod hard;
 mod kind;
+mod late;
 mod lent;
 mod marked;
 mod measure;
 mod noise;
+mod oversized;
 mod pages;
 mod program;
 mod random;
@@ -34,6 +36,7 @@ mod solution;
 mod tables;
 mod tally;
 mod templates;
+mod trees;
 
 use case::Case;
 use disagreement::{Compared, Disagreement};
@@ -172,7 +175,7 @@ fn all(given: &Arguments) -> bool {
         return false;
     }
     let tally = run.tally.into_inner().expect("no thread panics");
-    println!("compare: seed {}: {}", given.seed, tally.line());
+    println!("compare: seed {}: {}", given.seed, tally.line(given.program.is_some()));
     let missing = tally.missing(given.program.is_some());
     if !missing.is_empty() {
         println!("compare: never came up: {}", missing.join(", "));

@@ -95,6 +95,19 @@ pub fn with_foreign_symbol(random: &mut Random, header: &Header, of_file: &[u64]
     Some(table)
 }
 
+/// The table with one variable that has no value: often the last.
+pub fn without_value(random: &mut Random, header: &Header, table: &[u64]) -> Vec<u64> {
+    let mut table = table.to_vec();
+    let variables = header.strings + header.numbers;
+    if variables > 0 {
+        let any = random.below(variables);
+        let variable = *random.pick(&[variables - 1, any]);
+        let numbers = variable.saturating_sub(header.strings);
+        table[LIMIT * (variable - numbers) + numbers] = 0;
+    }
+    table
+}
+
 /// A count of words that is not this one: one short, one long, none, or any.
 pub fn wrong_size(random: &mut Random, words: usize) -> usize {
     let sizes = [words.wrapping_sub(1), words + 1, 0, random.below(2 * words + 3), words + 64, 1040];

@@ -1,11 +1,46 @@
 //! What has been compared, and whether anything never came up.
 
 use crate::kind::Kind;
+use second::file::LARGEST_FILE;
+use second::Outcome;
 use std::fmt::Display;
 
 const ENTRIES: [&str; 7] = ["read", "unpack", "step", "settle", "search", "perform", "solve"];
 const OUTCOMES: [&str; 3] = ["found", "none", "spent"];
 const RELATIONS: [&str; 8] = ["trimming", "Eq", "Neq", "Rev", "Cat", "Sub", "Len", "Regular"];
+
+/// What is far from where most cases are, and must come up all the same.
+#[derive(Clone, Copy)]
+pub enum Event {
+    ManyRounds,
+    LateFound,
+    LateNone,
+    WideBudget,
+    ExactBudget,
+    LongList,
+    WideRoom,
+    OversizedLayout,
+    OversizedAutomata,
+    Pieces,
+    SpentProgram,
+}
+
+/// By the event; the counts behind "beyond" are what the kinds of cases without long chains and known trees reach.
+const EVENTS: [&str; 11] = [
+    "rounds beyond 34",
+    "found beyond node 549",
+    "none beyond 2047 nodes",
+    "budgets from 3001 to 65536",
+    "budgets at a count beyond 3000 or one beside it",
+    "lists beyond 400 calls",
+    "rooms with 1000 words or more beyond",
+    "files beyond the largest refused by 4",
+    "files beyond the largest refused by 5",
+    "inputs of the program in pieces",
+    "programs run where the search was spent",
+];
+
+const MAXIMA: [&str; 6] = ["found", "none", "budget below 2^32 - 1", "rounds", "calls in a list", "bytes of a file"];
 
 /// Counts of cases and of calls. Every call of an entry counts once, by its answer too.
 #[derive(Clone, Default)]
@@ -15,11 +50,14 @@ pub struct Tally {
     /// Calls by their entry, in the order of the names above.
     entries: [u64; 7],
     /// Searches by their outcome.
-    pub outcomes: [u64; 3],
+    outcomes: [u64; 3],
     /// Refused calls by their number; none has the number 0.
     refusals: [u64; 14],
     /// Steps that struck something, by the kind of their constraint; trimming is 0.
     pub struck: [u64; 8],
+    events: [u64; EVENTS.len()],
+    /// The greatest that came up, in the order of the names above.
+    maxima: [u64; MAXIMA.len()],
     /// Steps that were also held against trying every choice.
     pub tried: u64,
     /// Runs of the program.
@@ -27,11 +65,70 @@ pub struct Tally {
 }
 
 impl Tally {
+    pub fn came_up(&mut self, event: Event) {
+        self.events[event as usize] += 1;
+    }
+
+    fn greatest(&mut self, of: usize, value: u64) {
+        self.maxima[of] = self.maxima[of].max(value);
+    }
+
     /// A call of this entry, with its refusal.
     pub fn call(&mut self, entry: usize, refused: Option<u8>) {
         self.entries[entry] += 1;
         if let Some(number) = refused {
             self.refusals[usize::from(number)] += 1;
+        }
+    }
+
+    /// A search within a budget; nothing where it was refused.
+    pub fn search(&mut self, budget: u32, outcome: Option<Outcome>) {
+        let Some(outcome) = outcome else { return };
+        let ended = match outcome {
+            Outcome::Found(nodes) => (0, nodes, 549, Event::LateFound),
+            Outcome::None(nodes) => (1, nodes, 2047, Event::LateNone),
+            Outcome::Spent(_) => (2, 0, 0, Event::WideBudget),
+        };
+        let (at, nodes, most, late) = ended;
+        self.outcomes[at] += 1;
+        if nodes > most {
+            self.came_up(late);
+        }
+        if at < 2 {
+            self.greatest(at, nodes.into());
+        }
+        if (3001..=65_536).contains(&budget) {
+            self.came_up(Event::WideBudget);
+        }
+        if nodes > 3000 && budget.abs_diff(nodes) <= 1 {
+            self.came_up(Event::ExactBudget);
+        }
+        if budget < u32::MAX {
+            self.greatest(2, budget.into());
+        }
+    }
+
+    pub fn rounds(&mut self, rounds: u32) {
+        self.greatest(3, rounds.into());
+        if rounds > 34 {
+            self.came_up(Event::ManyRounds);
+        }
+    }
+
+    pub fn list(&mut self, calls: usize) {
+        self.greatest(4, calls as u64);
+        if calls > 400 {
+            self.came_up(Event::LongList);
+        }
+    }
+
+    /// A file of this size, with its refusal.
+    pub fn file(&mut self, bytes: usize, refused: Option<u8>) {
+        self.greatest(5, bytes as u64);
+        match refused {
+            Some(4) if bytes > LARGEST_FILE => self.came_up(Event::OversizedLayout),
+            Some(5) if bytes > LARGEST_FILE => self.came_up(Event::OversizedAutomata),
+            _ => {}
         }
     }
 
@@ -42,17 +139,20 @@ impl Tally {
             (&mut self.outcomes, &other.outcomes),
             (&mut self.refusals, &other.refusals),
             (&mut self.struck, &other.struck),
+            (&mut self.events, &other.events),
         ];
         for (sums, counts) in pairs {
             sums.iter_mut().zip(counts).for_each(|(sum, count)| *sum += count);
         }
+        self.maxima.iter_mut().zip(&other.maxima).for_each(|(most, value)| *most = (*most).max(*value));
         self.tried += other.tried;
         self.runs += other.runs;
     }
 
-    /// Every count with its name, group by group.
-    fn groups(&self) -> Vec<(&'static str, Vec<(String, u64)>)> {
+    /// Every count with its name, group by group; those of the program only where there is a program.
+    fn groups(&self, program: bool) -> Vec<(&'static str, Vec<(String, u64)>)> {
         let refusals: Vec<u8> = (1..=13).collect();
+        let events = if program { EVENTS.len() } else { Event::Pieces as usize };
         vec![
             ("cases", named(&Kind::ALL.map(Kind::name), &self.kinds)),
             ("calls", named(&ENTRIES, &self.entries)),
@@ -60,14 +160,16 @@ impl Tally {
             ("refused", named(&refusals, &self.refusals[1..])),
             ("steps that struck", named(&RELATIONS, &self.struck)),
             ("steps by every choice", named(&["tried"], &[self.tried])),
+            ("far out", named(&EVENTS[..events], &self.events)),
+            ("greatest", named(&MAXIMA, &self.maxima)),
         ]
     }
 
     /// All counts in one line.
-    pub fn line(&self) -> String {
+    pub fn line(&self, program: bool) -> String {
         let calls: u64 = self.entries.iter().sum();
         let mut parts = vec![format!("{} cases, {calls} calls of the library, {} runs of the program agree", self.kinds.iter().sum::<u64>(), self.runs)];
-        for (group, counts) in self.groups() {
+        for (group, counts) in self.groups(program) {
             let counts: Vec<String> = counts.iter().map(|(name, count)| format!("{name} {count}")).collect();
             parts.push(format!("{group}: {}", counts.join(", ")));
         }
@@ -77,7 +179,7 @@ impl Tally {
     /// What never came up; the program's runs only where there is a program.
     pub fn missing(&self, program: bool) -> Vec<String> {
         let never = |group: &'static str| move |(name, count): &(String, u64)| (*count == 0).then(|| format!("{group}: {name}"));
-        let mut missing: Vec<String> = self.groups().iter().flat_map(|(group, counts)| counts.iter().filter_map(never(group))).collect();
+        let mut missing: Vec<String> = self.groups(program).iter().flat_map(|(group, counts)| counts.iter().filter_map(never(group))).collect();
         if program && self.runs == 0 {
             missing.push("runs of the program".into());
         }
@@ -99,10 +201,38 @@ mod tests {
         tally.refusals[1..].fill(1);
         tally.outcomes = [1, 0, 1];
         tally.refusals[12] = 0;
+        tally.rounds(34);
+        tally.list(401);
         let missing = tally.missing(true);
-        for name in ["searches: none", "refused: 12", "runs of the program", "cases: small"] {
+        for name in ["searches: none", "refused: 12", "runs of the program", "cases: small", "far out: rounds beyond 34"] {
             assert!(missing.contains(&name.to_string()), "{name} in {missing:?}");
         }
-        assert!(!missing.contains(&"refused: 13".to_string()));
+        for name in ["refused: 13", "far out: lists beyond 400 calls", "greatest: rounds"] {
+            assert!(!missing.contains(&name.to_string()), "{name} in {missing:?}");
+        }
+    }
+
+    #[test]
+    fn searches_are_counted_by_how_far_they_go() {
+        let mut tally = Tally::default();
+        tally.search(65_536, Some(Outcome::Found(65_536)));
+        tally.search(4_000, Some(Outcome::None(2_047)));
+        tally.search(u32::MAX, Some(Outcome::None(2_048)));
+        tally.search(9, Some(Outcome::Spent(9)));
+        assert_eq!(tally.outcomes, [1, 2, 1]);
+        let counted = |event: Event| tally.events[event as usize];
+        assert_eq!([Event::LateFound, Event::LateNone, Event::WideBudget, Event::ExactBudget].map(counted), [1, 1, 2, 1]);
+        assert_eq!(tally.maxima[..3], [65_536, 2_048, 65_536]);
+    }
+
+    #[test]
+    fn the_greatest_of_two_tallies() {
+        let (mut one, mut other) = (Tally::default(), Tally::default());
+        one.rounds(40);
+        other.rounds(9);
+        other.file(LARGEST_FILE + 1, Some(5));
+        one.add(&other);
+        assert_eq!((one.maxima[3], one.maxima[5]), (40, LARGEST_FILE as u64 + 1));
+        assert_eq!(one.events[Event::OversizedAutomata as usize], 1);
     }
 }

@@ -1,6 +1,6 @@
 //! Damages in automata, table and constraints: refusals 5 to 8.
 
-use super::change::{on_draft, on_laid, Damage};
+use super::change::{on_draft, on_laid, Damage, MOST_RECORDS};
 use crate::draft::{below, Draft, Laid};
 use crate::generate::record;
 use crate::random::Random;
@@ -28,18 +28,17 @@ fn automata() -> Vec<Damage> {
         }),
         on_draft(5, |draft, random| one_machine(draft, random)[0] = random.between(33, 255) as u8),
         on_draft(5, |draft, random| {
-            let machine = one_machine(draft, random);
-            machine[1] |= 1 << machine[0];
+            let machine = smaller_machine(draft, random);
+            let bit = usize::from(machine[0]);
+            machine[1 + bit / 8] |= 1 << (bit % 8);
         }),
         on_draft(5, |draft, random| {
-            let bit = random.between(8, 31);
-            one_machine(draft, random)[1 + bit / 8] |= 1 << (bit % 8);
+            let machine = smaller_machine(draft, random);
+            let bit = random.between(machine[0].into(), 31);
+            machine[1 + bit / 8] |= 1 << (bit % 8);
         }),
-        on_draft(5, |draft, random| spoil_move(draft, random, 0)),
-        on_draft(5, |draft, random| {
-            let over = random.below(240) as u8;
-            spoil_move(draft, random, over);
-        }),
+        on_draft(5, |draft, random| spoil_move(draft, random, |states, _| states)),
+        on_draft(5, |draft, random| spoil_move(draft, random, |states, random| random.between(states.into(), 255) as u8)),
         on_draft(5, |draft, random| last_machine(draft).push(random.byte())),
         on_draft(5, |draft, _| {
             let machine = last_machine(draft);
@@ -59,18 +58,28 @@ fn last_machine(draft: &mut Draft) -> &mut Vec<u8> {
     draft.machines.last_mut().expect("a sound problem has automata")
 }
 
-/// A move to a state that is so many past the last.
-fn spoil_move(draft: &mut Draft, random: &mut Random, over: u8) {
+/// An automaton with less than 32 states, so that there are bits of accepting states that it must not have.
+fn smaller_machine<'a>(draft: &'a mut Draft, random: &mut Random) -> &'a mut Vec<u8> {
+    let symbols = draft.symbols;
+    let machine = one_machine(draft, random);
+    if machine[0] == 32 {
+        *machine = rules::any(random, symbols, 31);
+    }
+    machine
+}
+
+/// A move to a state that is none, by the count of states.
+fn spoil_move(draft: &mut Draft, random: &mut Random, state: fn(u8, &mut Random) -> u8) {
     let machine = one_machine(draft, random);
     let at = *random.pick(&[5, machine.len() - 1, 5 + machine.len() / 2]);
     let at = at.min(machine.len() - 1);
-    machine[at] = machine[0] + over;
+    machine[at] = state(machine[0], random);
 }
 
 /// 5: as many automata as there are, but another count.
 fn automata_counts() -> Vec<Damage> {
     vec![
-        on_laid(5, |laid, _| recount(laid, |count| count + 1)),
+        on_laid(5, |laid, _| recount(laid, |count| count + 1)).where_it(|draft| draft.machines.len() < 8),
         on_laid(5, |laid, _| recount(laid, |count| count.saturating_sub(1))),
         on_laid(5, |laid, _| recount(laid, |_| 0)),
     ]
@@ -83,9 +92,9 @@ fn recount(laid: &mut Laid, change: fn(u8) -> u8) {
     }
 }
 
-/// 6: a bit at k or above in a symbol word.
+/// 6: a bit at k or above in a symbol word; with 64 symbols there is none.
 fn symbol_words() -> Vec<Damage> {
-    vec![
+    let all = [
         on_draft(6, |draft, _| draft.rows[0][1] |= 1 << draft.symbols),
         on_draft(6, |draft, _| draft.rows.last_mut().expect("a sound problem has strings")[63] |= 1 << draft.symbols),
         on_draft(6, |draft, random| one_place(draft, random, 1 << 63)),
@@ -95,7 +104,8 @@ fn symbol_words() -> Vec<Damage> {
             let bit = random.between(draft.symbols, 63);
             one_place(draft, random, 1 << bit);
         }),
-    ]
+    ];
+    all.into_iter().map(|damage| damage.where_it(|draft| draft.symbols < 64)).collect()
 }
 
 fn one_place(draft: &mut Draft, random: &mut Random, bits: u64) {
@@ -122,10 +132,14 @@ fn records() -> Vec<Damage> {
     all
 }
 
-/// Puts a record somewhere among the others.
+/// Puts a record somewhere among the others, often at the end; where there is no place for one more, instead of another.
 fn insert(draft: &mut Draft, random: &mut Random, record: [u8; 4]) {
-    let at = random.below(draft.records.len() + 1);
-    draft.records.insert(at, record);
+    let at = if random.once_in(4) { draft.records.len() } else { random.below(draft.records.len() + 1) };
+    if draft.records.len() < MOST_RECORDS {
+        draft.records.insert(at, record);
+    } else {
+        draft.records[at.min(MOST_RECORDS - 1)] = record;
+    }
 }
 
 /// A good record of this kind.

@@ -1,6 +1,6 @@
 //! Damages that the trailer shows: refusals 1 to 4.
 
-use super::change::{on_bytes, on_draft, on_laid, Damage};
+use super::change::{on_bytes, on_draft, on_laid, Damage, MOST_RECORDS};
 use crate::draft::{Laid, NOTHING};
 use crate::random::Random;
 use crate::rules;
@@ -67,7 +67,7 @@ fn distances() -> Vec<Damage> {
         on_laid(4, |laid, random| laid.body.insert(0, random.byte())),
         on_laid(4, |laid, _| drop(laid.body.drain(..1))),
         on_laid(4, |laid, _| laid.distances = laid.distances.map(|distance| distance.wrapping_add(1))),
-        on_laid(4, |laid, _| laid.constraints += 1),
+        on_laid(4, |laid, _| laid.constraints += 1).where_it(|draft| draft.records.len() < MOST_RECORDS - 1),
         on_laid(4, constraints_past_32_bits),
         on_laid(4, table_past_32_bits),
     ];
@@ -76,9 +76,8 @@ fn distances() -> Vec<Damage> {
         all.push(on_laid(4, move |laid, _| laid.distances[at] = laid.distances[at].wrapping_sub(1)));
         all.push(on_laid(4, move |laid, random| laid.distances[at] ^= 1 << random.below(32)));
     }
-    for at in [1, 2] {
-        all.push(on_laid(4, move |laid, _| laid.counts[at] += 1));
-    }
+    all.push(on_laid(4, |laid, _| laid.counts[1] += 1).where_it(|draft| draft.rows.len() < 16));
+    all.push(on_laid(4, |laid, _| laid.counts[2] += 1).where_it(|draft| draft.numbers.len() < 16));
     all
 }
 
