@@ -2,10 +2,13 @@
 
 use crate::random::Random;
 
-/// A result between two neighbours that no entry may touch.
+/// A result between two neighbours that no entry may touch. The order is fixed: a write that is too wide ends in the marks, and so is seen, or in the spare
+/// ones behind them.
+#[repr(C)]
 pub struct Marked<T> {
-    marks: [T; 3],
     cells: [T; 3],
+    marks: [T; 3],
+    _spare: [T; 8],
 }
 
 /// What such a result should be and is, with its neighbours.
@@ -56,11 +59,11 @@ impl Word for usize {
 impl<T: Word> Marked<T> {
     pub fn new(random: &mut Random) -> Marked<T> {
         let marks = [0; 3].map(|_| T::mark(random));
-        Marked { marks, cells: marks }
+        Marked { cells: marks, marks, _spare: [marks[0]; 8] }
     }
 
     pub fn pointer(&mut self) -> *mut T {
-        self.cells.as_mut_ptr().wrapping_add(1)
+        (self as *mut Marked<T>).cast::<T>().wrapping_add(1)
     }
 
     /// A call that accepts writes the result alone, and one that refuses writes nothing.
