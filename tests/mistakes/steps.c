@@ -1,0 +1,197 @@
+/* Step, spoiled: the proved entry has narrowed the table, and the mistake then gives back what was struck or strikes more. */
+#include "standin.h"
+
+#include <string.h>
+
+static _Thread_local uint64_t before[COBLESKEG_LARGEST_TABLE];
+static _Thread_local uint8_t changed[LARGEST_COPY];
+
+static int one_bit(uint64_t word)
+{
+    return word != 0 && (word & (word - 1)) == 0;
+}
+
+static int highest(uint64_t word)
+{
+    return word == 0 ? 0 : 63 - __builtin_clzll(word);
+}
+
+/* The length of the one string that the row stands for, or -1. */
+static int single(const uint64_t *row)
+{
+    if (!one_bit(row[0]))
+        return -1;
+    int length = highest(row[0]);
+    for (int i = 1; i <= length; i++)
+        if (!one_bit(row[i]))
+            return -1;
+    return length;
+}
+
+/* Two single strings of one length, the second read backwards or not, that are alike before this place and differ from there on. */
+static int differ_late(const uint64_t *x, const uint64_t *y, int backwards, int least)
+{
+    int length = single(x), first = 1;
+    if (length < least || single(y) != length)
+        return 0;
+    while (first <= length && x[first] == y[backwards ? length + 1 - first : first])
+        first++;
+    return first >= least && first <= length;
+}
+
+/* The third is the two others joined, up to this place. */
+static int joined_late(const uint64_t *x, const uint64_t *y, const uint64_t *z, int least)
+{
+    int left = single(x), right = single(y), first = 1;
+    if (left < 0 || right < 0 || single(z) != left + right)
+        return 0;
+    while (first <= left + right && z[first] == (first <= left ? x[first] : y[first - left]))
+        first++;
+    return first >= least && first <= left + right;
+}
+
+/* Puts a row back as it was. */
+static void leave(uint64_t *table, size_t string)
+{
+    memcpy(table + ROW * string, before + ROW * string, 8 * ROW);
+}
+
+static void leave_place(uint64_t *table, size_t string, size_t place)
+{
+    table[ROW * string + place] = before[ROW * string + place];
+}
+
+static void trimmed(uint64_t *table, size_t x)
+{
+    if (planted == trim_63)
+        leave_place(table, x, PLACES);
+    if (planted == trim_untidy)
+        for (size_t i = (size_t)highest(table[ROW * x]) + 1; i < ROW; i++)
+            leave_place(table, x, i);
+}
+
+/* Eq, Neq and Rev. */
+static void paired(uint64_t *table, int kind, size_t x, size_t y)
+{
+    const uint64_t *one = before + ROW * x, *other = before + ROW * y;
+    if ((planted == eq_50 && kind == 1 && differ_late(one, other, 0, 50)) || (planted == rev_50 && kind == 3 && differ_late(one, other, 1, 50))) {
+        leave(table, x);
+        leave(table, y);
+    }
+    if (planted == neq_50 && kind == 2 && differ_late(one, other, 0, 50)) {
+        memset(table + ROW * x, 0, 8 * ROW);
+        memset(table + ROW * y, 0, 8 * ROW);
+    }
+}
+
+static void joined(uint64_t *table, size_t x, size_t y, size_t z)
+{
+    if (planted == cat_60 && joined_late(before + ROW * x, before + ROW * y, before + ROW * z, 60)) {
+        leave(table, x);
+        leave(table, y);
+        leave(table, z);
+    }
+    if (planted == cat_last && table[ROW * x] > 1)
+        table[ROW * x + (size_t)highest(table[ROW * x])] = 0;
+}
+
+static void part(uint64_t *table, size_t x, size_t y, uint64_t *number, uint64_t values)
+{
+    if (planted == sub_63 && !one_bit(*number))
+        *number &= ~(UINT64_C(1) << 63);
+    int longest = highest(table[ROW * x]);
+    if (planted == sub_empty && longest > 0 && longest < PLACES && (table[ROW * y] & 1))
+        *number |= values & UINT64_C(1) << (longest + 1);
+}
+
+static void measured(uint64_t *table, size_t x, uint64_t *number)
+{
+    if (planted == len_63 && *number >> 63 && !one_bit(*number)) {
+        *number &= ~(UINT64_C(1) << 63);
+        table[ROW * x] &= ~(UINT64_C(1) << 63);
+    }
+}
+
+/* Regular is spoiled before it is taken: its row loses a symbol, or its automaton an accepting state. Answers the file to take it from. */
+static const uint8_t *ruled(const uint8_t *file, size_t size, struct counts counts, const uint8_t *record, uint64_t *table)
+{
+    if (planted == regular_symbol_63)
+        for (size_t i = 1; i < ROW; i++)
+            table[ROW * record[1] + i] &= ~(UINT64_C(1) << 63);
+    if (planted != regular_state_31)
+        return file;
+    memcpy(changed, file, size);
+    size_t at = 8 * counts.words + 4 * counts.constraints;
+    for (size_t i = 0; i < record[2]; i++)
+        at += 5 + changed[at] * counts.symbols;
+    changed[at + 4] &= 0x7f;
+    return changed;
+}
+
+static void spoiled(uint64_t *table, struct counts counts, const uint8_t *record)
+{
+    uint64_t *numbers = table + ROW * counts.strings;
+    switch (record[0]) {
+    case 1: case 2: case 3: paired(table, record[0], record[1], record[2]); break;
+    case 4: joined(table, record[1], record[2], record[3]); break;
+    case 5: part(table, record[1], record[2], numbers + record[3], before[ROW * counts.strings + record[3]]); break;
+    case 6: measured(table, record[1], numbers + record[2]); break;
+    case 7:
+        if (planted == regular_63)
+            leave_place(table, record[1], PLACES);
+    }
+}
+
+/* A step that the proved entry accepts. */
+static void accepted(const uint8_t *file, size_t size, size_t j, uint64_t *table, uint32_t *struck)
+{
+    struct counts counts = counts_of(file, size);
+    const uint8_t *record = file + 8 * counts.words + 4 * j;
+    memcpy(before, table, 8 * counts.words);
+    const uint8_t *seen = j < counts.constraints && record[0] == 7 ? ruled(file, size, counts, record, table) : file;
+    proved_step(seen, size, j, table, counts.words, struck);
+    if (j < counts.constraints)
+        spoiled(table, counts, record);
+    else
+        trimmed(table, j - counts.constraints);
+    size_t counted = planted == struck_strings ? ROW * counts.strings : counts.words;
+    uint32_t lost = bits_of(before, counted) - bits_of(table, counted);
+    *struck = planted == struck_8_bits ? lost & 255 : lost;
+    if (planted == struck_wide)
+        memcpy(struck, &(uint64_t){lost}, 8);
+}
+
+/* What the mistaken Step makes of a call that the proved one refuses by this number. */
+static uint8_t refused(uint8_t number, const uint8_t *file, size_t size, size_t j, uint64_t *table, size_t words, uint32_t *struck)
+{
+    struct counts counts = counts_of(file, size);
+    size_t steps = counts.constraints + counts.strings;
+    if (planted == order_9_10 && number == 9 && counts.symbols < 64)
+        for (size_t at = 0; at < words && at < ROW * counts.strings; at++)
+            if (at % ROW != 0 && table[at] >> counts.symbols != 0)
+                return 10;
+    if (planted == order_10_11 && number == 10 && j >= steps)
+        return 11;
+    if (planted == step_refused && number == 11)
+        *struck = 0;
+    if (planted == step_32_bits && number == 11)
+        return proved_step(file, size, (uint32_t)j, table, words, struck);
+    int foreign = planted == lent_symbol_63 && number == 10 && counts.symbols == 63 && j < steps;
+    if (foreign || (planted == step_past && number == 11 && j == steps)) {
+        *struck = 0;
+        return 0;
+    }
+    return number;
+}
+
+uint8_t cobleskeg_step(const uint8_t *file, size_t size, size_t j, uint64_t *table, size_t words, uint32_t *struck)
+{
+    static _Thread_local uint64_t tried[COBLESKEG_LARGEST_TABLE];
+    uint32_t unused;
+    uint64_t *on = words <= COBLESKEG_LARGEST_TABLE ? memcpy(tried, table, 8 * words) : table;
+    uint8_t number = proved_step(file, size, j, on, words, &unused);
+    if (number != 0)
+        return refused(number, file, size, j, table, words, struck);
+    accepted(file, size, j, table, struck);
+    return 0;
+}
