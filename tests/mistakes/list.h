@@ -31,12 +31,14 @@ MISTAKE(cat_twice, "refusal 8 does not compare the second and third string of Ca
 MISTAKE(order_1_2, "refusal 2 comes before 1")
 MISTAKE(order_2_3, "refusal 3 comes before 2")
 MISTAKE(order_3_4, "refusal 4 comes before the bytes 6 and 7 of refusal 3")
+MISTAKE(order_4_5, "refusal 5 comes before the table's distance and the size of refusal 4")
 MISTAKE(order_5_6, "refusal 6 comes before 5")
 MISTAKE(order_6_7, "refusal 7 comes before 6")
 MISTAKE(order_7_8, "refusal 8 of a record comes before refusal 7 of a later one")
 MISTAKE(order_8_9, "Unpack: refusal 9 comes before 8")
 MISTAKE(order_9_10, "Step: refusal 10 comes before 9")
 MISTAKE(order_10_11, "Step: refusal 11 comes before 10")
+MISTAKE(order_8_12, "Search: refusal 12 comes before 8")
 MISTAKE(order_12_13, "Search: refusal 13 comes before 12")
 
 /* Refusals 9 to 13. */

@@ -174,6 +174,18 @@ static void mend_trailer(void)
         trailer()[6] = 0;
 }
 
+/* Makes the table's distance and the size fit, if the file has as many bytes as that needs: those before the table go. */
+static int fit(void)
+{
+    uint64_t table = 8 * copy.counts.words + (uint64_t)distance(1);
+    if (copy.size < table + TRAILER)
+        return 0;
+    set_distance(0, (uint32_t)table);
+    memmove(copy.bytes, copy.bytes + copy.size - TRAILER - table, table + TRAILER);
+    copy.size = table + TRAILER;
+    return 1;
+}
+
 /* Whether the table has a symbol that there is not. */
 static int foreign(void)
 {
@@ -217,6 +229,8 @@ static uint8_t mistaken(uint8_t number)
         return number;
     if (number == 4 && ((planted == distances_32 && laid_by(UINT32_MAX)) || (planted == distances_16 && laid_by(UINT16_MAX))))
         return 5;
+    if (planted == order_4_5)
+        return number == 4 && fit() && asked() == 5 ? 5 : number;
     if (planted == size_large && copy.size > COBLESKEG_LARGEST_FILE && number > 4)
         return 4;
     if (planted == order_5_6 && number == 5 && foreign())

@@ -21,7 +21,7 @@ ENTRIES = ("read", "unpack", "step", "settle", "search", "perform")
 SOURCES = ("standin", "reading", "steps", "rounds", "searches")
 COMPARE = BUILT / "cargo" / "release" / "compare"
 CASES = 50000  # of the short run
-SOUND_CASES = 10000  # enough that everything comes up
+SOUND_CASES = 5000  # enough that everything comes up
 NONE = "none"
 
 

@@ -10,6 +10,8 @@ static uint8_t refused(uint8_t number, const uint8_t *file, size_t size, uint32_
                        uint8_t *outcome, uint32_t *nodes)
 {
     size_t wanted = counts_of(file, size).words;
+    if (planted == order_8_12 && number == 8 && room_words < 3 * wanted)
+        return 12;
     if (planted == order_12_13 && number == 12 && words != wanted)
         return 13;
     if (planted == room_short && number == 12 && room_words + 1 == 3 * wanted && words == wanted) {
