@@ -58,7 +58,7 @@ is-none R U (ofSearch.None m) z n e o =
 is-none R U (ofSearch.Spent m) z n e o = absurd (spent≢none (ap (λ (y : Searched). y .outcome) (answered-inj e) ∙ o))
 
 -- a search with room enough and an answer table that fits is answered
-search-fitting : (a : Accepted) (budget : ℕ) (R A : List ℕ) → 3 * width (a .problem) ≤ length R → length A ≡ width (a .problem)
+pub search-fitting : (a : Accepted) (budget : ℕ) (R A : List ℕ) → 3 * width (a .problem) ≤ length R → length A ≡ width (a .problem)
     → search (answered a) budget R A ≡ answered (record {
       outcome = searching (a .problem) (a .table) budget A .outcome;
       room = replicate (3 * width (a .problem)) 0 ++ drop (3 * width (a .problem)) R;

@@ -72,7 +72,13 @@ pub fn record_step(c: Constraint, file: &[u8], p: layout::Parts, table: &mut [u6
 }
 
 // The step of constraint j of the list.
-pub fn lent_step(cs: &[Constraint], j: usize, file: &[u8], p: layout::Parts, table: &mut [u64]) -> u32
+pub fn lent_step(
+    cs: &[Constraint],
+    j: usize,
+    file: &[u8],
+    p: layout::Parts,
+    table: &mut [u64],
+) -> u32
     requires { ⌜ Usable (now file) p × (lendable (problemIn (now file) p) (now table) ≡ true) × Listed (now file) p (now cs) × (j < p .c) ⌝ }
     ensures { λ r. ⌜ Step (problemIn (now (file .entry)) p) (getD (problemIn (now (file .entry)) p .constraints) j (always 0))
         (now (table .entry)) (now (table .exit)) r ⌝ }

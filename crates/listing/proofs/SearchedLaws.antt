@@ -6,13 +6,13 @@ use mathlib.Core.Option.{Option, none, some, Option·elim}
 use Prim.Native.Nat.{ℕ, _+_, _*_, _≤_, _<_}
 use native.Mathlib.Omega.{arith}
 use lib.Dec.{leb}
-use lib.ListN.{length, replicate, drop, length-append, length-replicate}
-use borrow.Author.Tests.{le-leb, leb-true, eq-eqb}
+use lib.ListN.{length, replicate, length-append, length-replicate}
+use borrow.Author.Tests.{leb-true}
 use Rattle.model.specs.Constraints.{Problem, Choice, width}
 use Rattle.model.specs.Solutions.{Fits, tableOf}
 use Rattle.model.specs.Tree as tree
 use Rattle.model.specs.Tree.{Search, Node, searching, firstSolved, nodes, hit, miss}
-use Rattle.model.specs.Replies.{answered, require, andThen}
+use Rattle.model.specs.Replies.{answered, andThen}
 use Rattle.model.specs.Layout.{layout}
 use Rattle.model.specs.Reading.{Accepted, problemOf, reading}
 use Rattle.model.specs.Operations.{Searched, search}
@@ -25,6 +25,7 @@ use Rattle.cobleskeg.specs.declared.SearchAnswer.{SearchAnswer}
 use Rattle.cobleskeg.specs.declared.SearchAnswer.the-variants.{Refused, Found, None, Spent}
 use Rattle.cobleskeg.specs.Answers.{searchReply}
 use Rattle.cobleskeg.specs.Claims.{SearchHolds}
+use Rattle.cobleskeg.proofs.SearchEntryLaws.{search-fitting}
 use Rattle.model.specs.Listing.{foundBytes, noneBytes, spentBytes, line, solutionLines, outcomeLines, replyLines, searchLines}
 use Rattle.listing.specs.Writing.{Capacity}
 use Rattle.listing.specs.TableLines.{tableLines, Lengths, Lent}
@@ -40,16 +41,6 @@ reading-range file a e =
     let bounds = layout-parts file (t .0) (t .1) .bounds in
     let holds = problemOf-holds (t .0) a (t .2) in
     (omega (arith, holds .strings, bounds .strings-most), omega (arith, holds .numbers, bounds .numbers-most))
-
--- a search with room enough and an answer table that fits is answered
-search-fitting : (a : Accepted) (budget : ℕ) (R A : List ℕ) → 3 * width (a .problem) ≤ length R → length A ≡ width (a .problem)
-    → search (answered a) budget R A ≡ answered (record {
-      outcome = searching (a .problem) (a .table) budget A .outcome;
-      room = replicate (3 * width (a .problem)) 0 ++ drop (3 * width (a .problem)) R;
-      table = searching (a .problem) (a .table) budget A .table;
-    })
-unfolding search andThen require
-search-fitting a budget R A h k = rw (le-leb (3 * width (a .problem)) (length R) h, eq-eqb (length A) (width (a .problem)) k)
 
 -- the count of a solved node that is found lies within the budget
 module _ (budget : ℕ) (A : List ℕ) where
