@@ -1,6 +1,5 @@
--- A depth-first loop with three tables: the current one, the decisions so far, and the values not yet tried. Assumes nothing.
--- `dec` has the decision at each word that the path to the current node branched at, and the file's words from the last of these on.
--- `alt` has at each such word the values that wait there, and 0 elsewhere. The words of a path go upwards (`child-later`).
+-- Laws of the depth-first loop with three tables: the current one, the decisions so far, and the values not yet tried (specs/Traversal.antt). The words of a path go
+-- upwards (`child-later`). Assumes nothing.
 use mathlib.Core.Path.{_≡_, refl, sym, ap, ap₂, subst, _∙_}
 use mathlib.Core.Logic.{_≢_}
 use mathlib.Core.Bool.{Bool, true, false}

@@ -1,6 +1,5 @@
--- Support for any kind of choice. K is the type of a choice, `Ok` says which choices count, and `bitsOf` gives the bits that a choice uses in word i of the n
--- words that are asked for: of a string's row, or of a number. A narrowing step is a union, over one parameter, of words that have such support; these
--- laws put the parts together, so that a step's proof only says which choices its parts stand for. Assumes nothing.
+-- Laws of support for any kind of choice (specs/Supported.antt). A narrowing step is a union, over one parameter, of words that have such support; these laws put
+-- the parts together, so that a step's proof only says which choices its parts stand for. Assumes nothing.
 use mathlib.Core.Path.{_≡_, refl, sym, ap, subst, _∙_}
 use mathlib.Core.Logic.{_⊎_, inl, inr, ⊎-elim}
 use mathlib.Core.Bool.{Bool, true, false, false≢true}
