@@ -16,7 +16,9 @@ mod disagreement;
 mod draft;
 mod drive;
 mod ended;
-/// The declarations of the crate over the archive: called as they stand, they show what a refused call writes.
+/// The declarations of the crate over the archive: called as they stand, they show what a refused call writes. The version alone is not called, since the second
+/// solver has none.
+#[allow(dead_code)]
 #[path = "../../bindings/rust/src/entries.rs"]
 mod entries;
 mod generate;
