@@ -1,15 +1,12 @@
 # Counts the instructions of one narrowing step of each kind, on full and on typical domains, by valgrind's callgrind: repeatable on one machine.
-# Run after `rt check measure`. The program runs a step n times on what the last step left; the difference between two counts, less that of a step that does
-# nothing, is the cost of the steps alone. It is run by the same words and with no environment, since both lie on the stack, and where the stack begins decides
-# how many instructions a copy of a row takes.
+# Run from the repository's root after `rt check measure`. The program runs a step n times on what the last step left; the difference between two
+# counts, less that of a step that does nothing, is the cost of the steps alone.
 import re
-import shutil
 import subprocess
 import sys
 from pathlib import Path
 
-ROOT = Path(__file__).resolve().parent.parent
-PROGRAM = Path("target") / "bin" / "measure"
+PROGRAM = Path(__file__).resolve().parent.parent / "target" / "bin" / "measure"
 KINDS = [(0, "Trim"), (1, "Eq"), (2, "Neq"), (3, "Rev"), (4, "Cat"), (5, "Sub"), (6, "Len"), (7, "Regular")]
 NOTHING = 255
 TIMES = 100
@@ -17,8 +14,8 @@ TIMES = 100
 
 def instructions(kind, domains, times):
     """How many instructions the program takes for this many steps."""
-    command = [shutil.which("valgrind") or "valgrind", "--tool=callgrind", "--callgrind-out-file=/dev/null", str(PROGRAM)]
-    done = subprocess.run(command, cwd=ROOT, env={}, input=bytes([kind, domains, times]), capture_output=True, check=True)
+    command = ["valgrind", "--tool=callgrind", "--callgrind-out-file=/dev/null", str(PROGRAM)]
+    done = subprocess.run(command, input=bytes([kind, domains, times]), capture_output=True, check=True)
     return int(re.search(rb"Collected : (\d+)", done.stderr).group(1))
 
 
@@ -28,7 +25,7 @@ def steps(kind, domains):
 
 
 def main():
-    if not (ROOT / PROGRAM).is_file():
+    if not PROGRAM.is_file():
         print("bench: target/bin/measure is not there: run `rt check measure` first")
         return 1
     print("| step | full domains | typical domains |")
