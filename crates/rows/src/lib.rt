@@ -14,9 +14,9 @@ pub struct Pair {
     pub y: [u64; 64],
 }
 
-// How many places, from the first on, each allow a symbol.
-fn run(row: [u64; 64]) -> usize
-    ensures { λ r. ⌜ Run row r ⌝ }
+// How many places, from the first on, each allow a symbol. The row is lent, here and in `cut`: trimming is every step's work, and a row by value is copied.
+fn run(row: &[u64; 64]) -> usize
+    ensures { λ r. ⌜ Run (now (row .entry)) r ⌝ }
 {
     let mut m: usize = 0;
     while m < 63 {
@@ -29,9 +29,9 @@ fn run(row: [u64; 64]) -> usize
 }
 
 // The row with these lengths, and its symbols at the places up to top only.
-fn cut(row: [u64; 64], lengths: u64, top: usize) -> [u64; 64]
+fn cut(row: &[u64; 64], lengths: u64, top: usize) -> [u64; 64]
     requires { ⌜ top < 64 ⌝ }
-    ensures { λ r. ⌜ Cut row lengths top r ⌝ }
+    ensures { λ r. ⌜ Cut (now (row .entry)) lengths top r ⌝ }
 {
     let mut r = [0u64; 64];
     r[0] = lengths;
@@ -47,11 +47,11 @@ fn cut(row: [u64; 64], lengths: u64, top: usize) -> [u64; 64]
 pub fn trim(row: [u64; 64]) -> [u64; 64]
     ensures { λ r. ⌜ r ≡ trimmed row ⌝ }
 {
-    let lengths = row[0] & words::low_mask(run(row));
+    let lengths = row[0] & words::low_mask(run(&row));
     if lengths == 0 {
         return [0u64; 64];
     }
-    cut(row, lengths, words::highest(lengths))
+    cut(&row, lengths, words::highest(lengths))
 }
 
 // Word by word, what both rows allow.

@@ -28,10 +28,10 @@ step row lengths i r h t = rw add-one (record {
 })
 
 abbrev Inv-loop : tie.InvT-loop
-Inv-loop lengths top row r₀ i₀ r i = (i ≤ top) × Cut row lengths i r
+Inv-loop row lengths top r₀ i₀ r i = (i ≤ top) × Cut row lengths i r
 
 abbrev μ-loop : tie.MeasureT-loop
-μ-loop lengths top row r₀ i₀ r i = top - i
+μ-loop row lengths top r₀ i₀ r i = top - i
 
 array-write-r : tie.Need-array-write-r Inv-loop μ-loop
 array-write-r c = search needs
@@ -45,8 +45,8 @@ add-r c = search needs
 mul-r : tie.Need-mul-r Inv-loop μ-loop
 mul-r c = search needs
 
-array-read-r : tie.Need-array-read-r Inv-loop μ-loop
-array-read-r c = search needs
+element-copy-out-r : tie.Need-element-copy-out-r Inv-loop μ-loop
+element-copy-out-r c = search needs
 
 add-r-2 : tie.Need-add-r-2 Inv-loop μ-loop
 add-r-2 c = search needs
@@ -64,7 +64,7 @@ loop-less : tie.Need-loop-less Inv-loop μ-loop
 loop-less c = search needs
 
 loop-again : tie.Need-loop-again Inv-loop μ-loop
-loop-again c = (search needs, step (c .before .before .args .t1) (c .before .before .args .lengths) (c .before .loop .i) (c .before .loop .r) (omega arith) (c .before .loop .inv .1))
+loop-again c = (search needs, step _ _ _ _ (omega arith) (c .before .before .loop .inv .1))
 
 returns : tie.Need-returns Inv-loop μ-loop
 returns c =
@@ -81,7 +81,7 @@ cut-spec =
     loop-holds
     add-r
     mul-r
-    array-read-r
+    element-copy-out-r
     add-r-2
     mul-r-2
     array-write-r-2

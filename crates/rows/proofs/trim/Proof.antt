@@ -13,44 +13,39 @@ use Rattle.rows.proofs.run.Reads as run-reads
 use Rattle.words.proofs.highest.Reads as highest-reads
 use Rattle.words.proofs.low_mask.Reads as low-mask-reads
 
--- src/lib.rt:40:19
 array-read-lengths : tie.Need-array-read-lengths
 array-read-lengths c = search needs
 
--- src/lib.rt:40:44
 run-requires : tie.Need-run-requires
 run-requires c κs = search needs
 
--- src/lib.rt:40:28
 low-mask-requires : tie.Need-low-mask-requires
 low-mask-requires c κs = search needs
 
 -- no length is left
 returns : tie.Need-returns
 returns c =
-    let s = c .before .before .before in
-    let row = s .args .t1 in
-    let m = c .before .before .run .result in
+    let r = c .before .before in
+    let row = r .before .before .args .t1 in
+    let m = r .run .result in
     let z : short row m ≡ 0 = rw (← c .before .low-mask .ensures) (c .if1 .taken) in
-    trim-none row m (array-words row (λ i. search needs)) (c .before .before .run .ensures) (search needs) z
+    trim-none row m (array-words row (λ i. search needs)) (r .run .ensures) (search needs) z
 
--- src/lib.rt:44:23
 highest-requires : tie.Need-highest-requires
 highest-requires c κs = search needs
 
--- src/lib.rt:44:5
 cut-requires : tie.Need-cut-requires
 cut-requires c κs = search needs
 
 -- the places up to the longest length that is left
 returns-2 : tie.Need-returns-2
 returns-2 c =
-    let s = c .before .before .before .before .before in
-    let row = s .args .t1 in
-    let m = c .before .before .before .before .run .result in
-    trim-right row m (array-words row (λ i. search needs)) (c .before .before .before .before .run .ensures) (c .before .highest .result)
-    (rw (← c .before .before .before .low-mask .ensures) (c .before .highest .ensures)) (c .cut .result)
-    (rw (← c .before .before .before .low-mask .ensures) (c .cut .ensures)) (search needs)
+    let l = c .before .before .before .before in
+    let r = l .before in
+    let row = r .before .before .args .t1 in
+    let m = r .run .result in
+    trim-right row m (array-words row (λ i. search needs)) (r .run .ensures) (c .before .highest .result)
+    (rw (← l .low-mask .ensures) (c .before .highest .ensures)) (c .cut .result) (rw (← l .low-mask .ensures) (c .cut .ensures)) (search needs)
 
 pub trim-spec : {M : Type 1} → statement M
 trim-spec =

@@ -7,11 +7,9 @@ use Rattle.words.proofs.has.Tie as tie
 use Rattle.words.proofs.has.Reads as reads
 use Rattle.words.proofs.has.Lts as lts
 
--- src/lib.rt:11:6
 shr-result : tie.Need-shr-result
 shr-result c = search needs
 
--- src/lib.rt:7:1
 returns : tie.Need-returns
 unfolding bit
 returns c = rw (and-mask (c .args .w / 2 ^ c .args .i) 1)

@@ -7,15 +7,12 @@ use Rattle.words.proofs.highest.Tie as tie
 use Rattle.words.proofs.highest.Reads as reads
 use Rattle.words.proofs.highest.Lts as lts
 
--- src/lib.rt:69:6
 sub-result : tie.Need-sub-result
 sub-result c = omega (arith, leading-top 64 (c .args .w) (c .pre) (c .fits .w .fits) .1)
 
--- src/lib.rt:69:5
 cast-result : tie.Need-cast-result
 cast-result c = search needs
 
--- src/lib.rt:65:1
 returns : tie.Need-returns
 returns c = highest-leading (c .args .w) (c .pre) (c .fits .w .fits)
 

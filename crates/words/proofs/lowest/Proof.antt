@@ -6,11 +6,9 @@ use Rattle.words.proofs.lowest.Tie as tie
 use Rattle.words.proofs.lowest.Reads as reads
 use Rattle.words.proofs.lowest.Lts as lts
 
--- src/lib.rt:77:5
 cast-result : tie.Need-cast-result
 cast-result c = omega (arith, trailing-le 64 (c .args .w))
 
--- src/lib.rt:73:1
 returns : tie.Need-returns
 returns c = lowest-trailing (c .args .w) (c .pre) (c .fits .w .fits)
 

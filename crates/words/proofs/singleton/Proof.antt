@@ -10,11 +10,9 @@ use Rattle.words.proofs.singleton.Tie as tie
 use Rattle.words.proofs.singleton.Reads as reads
 use Rattle.words.proofs.singleton.Lts as lts
 
--- src/lib.rt:46:5
 shl-result : tie.Need-shl-result
 shl-result c = search needs
 
--- src/lib.rt:42:1
 returns : tie.Need-returns
 returns c = let l : 1 + c .args .i ≤ 64 = omega arith in shl-exact 1 (c .args .i) 64 (lit< tt) l ∙ one-mul (2 ^ c .args .i)
 
