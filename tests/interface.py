@@ -100,6 +100,15 @@ def constants_agree():
         raise Failure(f"the Rust crate has other numbers than the header: {', '.join(wrong)}")
 
 
+def needs_agree():
+    """The header names every function that the archive takes from other libraries, and no other: who links without a C library must supply them."""
+    sentence = re.search(r"of other libraries it takes (.+?) alone", " ".join(HEADER.read_text().split()).replace(" * ", " "))
+    named = set(re.findall(r"\w+", sentence[1])) - {"and"} if sentence else set()
+    taken = set(re.findall(r" U (\w+)", run(["nm", ARCHIVE])))
+    if named != taken:
+        raise Failure(f"the archive takes {', '.join(sorted(taken))}; the header names {', '.join(sorted(named))}")
+
+
 def c_programs():
     """Builds both C programs and runs the one that calls every entry; answers its line."""
     run(["g++", "-fsyntax-only", "-Wall", "-Wextra", "-Werror", "-x", "c++", HEADER])
@@ -173,6 +182,7 @@ def main():
             raise Failure("\n".join(missing))
         declarations_agree()
         constants_agree()
+        needs_agree()
         checks = c_programs()
         tests = rust_tests()
         count = examples()
