@@ -76,12 +76,13 @@ uint8_t cobleskeg_read(const uint8_t *file, size_t size, size_t *symbols, size_t
 uint8_t cobleskeg_unpack(const uint8_t *file, size_t size, uint64_t *table, size_t words);
 
 /* Step: narrows `table` by one constraint, or trims one string. For j below the count of constraints it is constraint j, else string j - constraints.
- * Refuses 1 to 11. Accepted, `table` keeps exactly the bits that have support, and `struck` says how many it lost. */
+ * Refuses 1 to 11. Accepted, the variables that it names keep exactly the bits that have support, all other words of `table` stay, and `struck` says how
+ * many bits were lost. */
 uint8_t cobleskeg_step(const uint8_t *file, size_t size, size_t j, uint64_t *table, size_t words, uint32_t *struck);
 
 /* Settle: rounds of steps on `table`, each string trimmed and then each constraint taken in order, until a round strikes nothing.
- * Refuses 1 to 10. Accepted, `table` is the one on which no step strikes, `rounds` counts the rounds, the last included, and `every_value` is 1 where every
- * variable still has a value, else 0. */
+ * Refuses 1 to 10. Accepted, no step strikes anything of `table` any more, `rounds` counts the rounds, the last included, and `every_value` is 1 where
+ * every variable still has a value, else 0. */
 uint8_t cobleskeg_settle(const uint8_t *file, size_t size, uint64_t *table, size_t words, uint32_t *rounds, uint8_t *every_value);
 
 /* Search: the first solution of the file's problem, strings before numbers and lower ones first, within a budget of nodes.

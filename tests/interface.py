@@ -1,6 +1,6 @@
 # The C interface, tested from outside: the C programs and the Rust crates over the archive, and the comparison with the second solver by the thousand.
 #     python3 tests/interface.py [--cases N] [--seed S]        50,000 cases of seed 1, where not said
-# It needs a C compiler and cargo, and what `rt staticlib cobleskeg_c` and `rt check clash` leave in target. All that it builds goes to target too.
+# It needs a C and a C++ compiler, nm and cargo, and what `rt staticlib cobleskeg_c` and `rt check clash` leave in target. All that it builds goes to target too.
 import argparse
 import os
 import re

@@ -92,7 +92,7 @@ BROKEN = [
     (ABC + "strng x length 1", 2, f"no statement begins with 'strng' (they are {STATEMENTS})"),
     (ABC + '"string" x length 1', 2, f'no statement begins with "string" (they are {STATEMENTS})'),
     (ABC + "string", 2, "expected the name of a string, found the end of the line"),
-    (ABC + "string 1x length 2", 2, "expected the name of a string, found '1x' (a name is letters, digits, - and _, and begins with a letter)"),
+    (ABC + "string 1x length 2", 2, "expected the name of a string, found '1x' (a name is letters, digits, - and _, and begins with a letter or _)"),
     (ABC + "string x 2..4", 2, "expected 'length' and lengths, 'of' and letters, or '=' and a quoted text, found '2..4'"),
     (ABC + "string x length", 2, "expected a length, found the end of the line"),
     (ABC + "string x length 2,", 2, "expected a length, found the end of the line"),

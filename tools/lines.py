@@ -80,7 +80,7 @@ class Line:
     def name(self, what):
         token = self.take(f"the name of {what}")
         if token.quoted or not NAME.fullmatch(token.text):
-            raise self.wrong(f"expected the name of {what}, found {token} (a name is letters, digits, - and _, and begins with a letter)")
+            raise self.wrong(f"expected the name of {what}, found {token} (a name is letters, digits, - and _, and begins with a letter or _)")
         return token.text
 
     def numbers(self, what, least):

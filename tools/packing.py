@@ -1,4 +1,5 @@
-# Problems, and the problem files of document 01 that hold them: packing one, and reading one back with refusals 1 to 8 in their order.
+# Problems, and the problem files of document 01 that hold them: packing one, and reading one back. A file is refused as the program refuses it:
+# with 4 where it is longer than the largest one, and else with 1 to 8 in their order.
 # `pack` assumes a problem that is within the limits below, as textform.py and `unpack` make it.
 from dataclasses import dataclass
 from itertools import chain
@@ -36,7 +37,7 @@ REFUSALS = {
 
 
 class Refused(Exception):
-    """A file that Read refuses, with the number of the refusal."""
+    """A file that the program refuses, with the number of the refusal."""
 
     def __init__(self, number):
         super().__init__(f"refused {number}: {REFUSALS[number]}")

@@ -17,7 +17,7 @@ static int highest(uint64_t word)
 }
 
 /* The length of the one string that the row stands for, or -1. */
-static int single(const uint64_t *row)
+static int one_string(const uint64_t *row)
 {
     if (!one_bit(row[0]))
         return -1;
@@ -28,11 +28,11 @@ static int single(const uint64_t *row)
     return length;
 }
 
-/* Two single strings of one length, the second read backwards or not, that are alike before this place and differ from there on. */
+/* Two rows that each stand for one string, of one length, the second read backwards or not, that are alike before this place and differ from there on. */
 static int differ_late(const uint64_t *x, const uint64_t *y, int backwards, int least)
 {
-    int length = single(x), first = 1;
-    if (length < least || single(y) != length)
+    int length = one_string(x), first = 1;
+    if (length < least || one_string(y) != length)
         return 0;
     while (first <= length && x[first] == y[backwards ? length + 1 - first : first])
         first++;
@@ -42,8 +42,8 @@ static int differ_late(const uint64_t *x, const uint64_t *y, int backwards, int 
 /* The third is the two others joined, up to this place. */
 static int joined_late(const uint64_t *x, const uint64_t *y, const uint64_t *z, int least)
 {
-    int left = single(x), right = single(y), first = 1;
-    if (left < 0 || right < 0 || single(z) != left + right)
+    int left = one_string(x), right = one_string(y), first = 1;
+    if (left < 0 || right < 0 || one_string(z) != left + right)
         return 0;
     while (first <= left + right && z[first] == (first <= left ? x[first] : y[first - left]))
         first++;

@@ -115,7 +115,7 @@ pub fn unpack(file: &[u8], table: &mut [u64]) -> Result<(), Refusal> {
 }
 
 /// Narrows `table` by constraint `j`, or trims string `j - constraints` where `j` is not below the count of constraints. Answers the number of bits struck;
-/// what is left has support.
+/// what is left of the variables that it names has support, and all else stays.
 ///
 /// Refuses 1 to 11.
 pub fn step(file: &[u8], j: usize, table: &mut [u64]) -> Result<u32, Refusal> {

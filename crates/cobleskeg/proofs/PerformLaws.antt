@@ -60,10 +60,10 @@ list-holds file b T w cs U e = record {
   every-call = λ n s. demand-3 file b .every-call T n s;
   refusing = λ n s. e ∙ demand-3 file b .refusing T n s cs;
   kept = λ a i m s α f.
-      let c : ListClaim a T m cs = demand-3 file b .listing a i T w m s cs in
+      let c : ListClaim a T m cs = demand-3 file b .calling a i T w m s cs in
       subst (λ (W : List ℕ). Holds (a .problem) W α) (sym (made a i)) (c .kept α f);
   settles = λ a i m s n.
-      let c : ListClaim a T m cs = demand-3 file b .listing a i T w m s cs in
+      let c : ListClaim a T m cs = demand-3 file b .calling a i T w m s cs in
       made a i ∙ c .settles (subst (λ (W : List ℕ). NoStepStrikes a W) (made a i) n);
 }
   where

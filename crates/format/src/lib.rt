@@ -1,5 +1,5 @@
 // What a problem file must be before anything works on it: refusals 1 to 8, in the paper's order. Each part is looked at as a part of the lent file; nothing
-// above this crate knows how a file is read.
+// above this crate looks for one of them.
 //
 // Assumes nothing.
 ghost use mathlib.Core.Path.{_≡_};

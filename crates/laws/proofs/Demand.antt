@@ -1,4 +1,4 @@
--- Demand 3, for every file: the one theorem on whole lists of calls and on every budget (`specs/Claim.antt` says what is claimed). Assumes nothing.
+-- Demand 3, for every file: the one theorem on whole lists of calls and on every budget (crates/model/specs/Claim.antt says what is claimed). Assumes nothing.
 use mathlib.Core.Path.{_≡_, refl, sym, ap, subst, _∙_}
 use mathlib.Core.Bool.{Bool, true, false}
 use mathlib.Core.List.{List}
@@ -89,13 +89,13 @@ demand : (r : Reading) → ((a : Accepted) → r ≡ answered a → Sound a) →
 demand (refused n) so = record {
   every-call = λ T m e j. step-refused n j T ∙ refused-alike (sym (settle-refused n T) ∙ e);
   refusing = λ T m e cs. calls-refused n cs T;
-  listing = λ a e. absurd (refused≢answered e);
+  calling = λ a e. absurd (refused≢answered e);
   searching = λ a e. absurd (refused≢answered e);
 }
 demand (answered b) so = record {
   every-call = λ T n e j. let l = refused-table b T n e in step-other b T j l ∙ refused-alike (sym (settle-other b T l) ∙ e);
   refusing = λ T n e cs. calls-other b cs T (refused-table b T n e);
-  listing = λ a e T bd m s cs.
+  calling = λ a e T bd m s cs.
       let q : b ≡ a = answered-inj e in
       list-claim a (so a e) T bd m (subst (λ (c : Accepted). settle (answered c) T ≡ answered m) q s) cs;
   searching = λ a e budget room A z s.

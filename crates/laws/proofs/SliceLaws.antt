@@ -63,8 +63,8 @@ module _ (a e : ℕ) (R U : List ℕ) (o : Outside a e R U) where
 pub set-outside : (R : List ℕ) (i v : ℕ) → Outside i (suc i) R (set R i v)
 set-outside R i v = record { before = take-set-le i R i v (omega arith); after = drop-set-lt (suc i) R i v (omega arith) }
 
-pub part-set : (a n k v : ℕ) (R : List ℕ) → k < n → part a n (set R (a + k) v) ≡ set (part a n R) k v
-part-set a n k v R h = ap (take n) (drop-set-add a R k v) ∙ take-set-lt n (drop a R) k v h
+pub part-set : (a n i v : ℕ) (R : List ℕ) → i < n → part a n (set R (a + i) v) ≡ set (part a n R) i v
+part-set a n i v R h = ap (take n) (drop-set-add a R i v) ∙ take-set-lt n (drop a R) i v h
 
 -- ---- n words put in the place of those from a on: how a part that was lent comes back
 

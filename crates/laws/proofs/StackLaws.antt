@@ -1,4 +1,4 @@
--- The invariant of the depth-first loop over three tables (`LoopLaws`), and its moves: each keeps the invariant and what the search answers. Assumes nothing.
+-- The moves of the depth-first loop over three tables: each keeps the invariant, `Stack` of specs/Traversal.antt, and what the search answers. Assumes nothing.
 -- The proofs rest on one fact: along a path the words that nodes branch at go upwards, so what is decided and what waits lies below a depth, and going down
 -- or back to a word makes the depth one more than that word's index.
 use mathlib.Core.Path.{_≡_, refl, sym, ap, subst, _∙_}

@@ -70,7 +70,7 @@ module _ (P : Problem) (c : Constraint) where
   unfolding narrowed
   narrowed-word T i h =
       let q : 0 + i ≡ i = omega arith in
-      mapFrom-getD 0 _ T i 0 0 h ∙ ap (λ (k : ℕ). cond (touches P c k) (union (map (λ γ. used (P .strings) γ k) (supports P c T))) (word T i)) q
+      mapFrom-getD 0 _ T i 0 0 h ∙ ap (λ (j : ℕ). cond (touches P c j) (union (map (λ γ. used (P .strings) γ j) (supports P c T))) (word T i)) q
 
   -- a bit of a touched word that stays is used by a supporting choice
   pub stays-only : (T : List ℕ) (i b : ℕ) → i < length T → touches P c i ≡ true → bit (word (narrowed P c T) i) b ≡ true

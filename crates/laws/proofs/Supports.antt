@@ -76,7 +76,7 @@ orWords-length n r s = length-map (from 0 n) _ ∙ from-length 0 n
 
 pub orWords-word : (n : ℕ) (r s : List ℕ) (i : ℕ) → i < n → word (orWords n r s) i ≡ bitOr (word r i) (word s i)
 unfolding orWords
-orWords-word n r s i h = let q : 0 + i ≡ i = omega arith in from-getD (λ i. bitOr (word r i) (word s i)) 0 n i 0 h ∙ ap (λ (k : ℕ). bitOr (word r k) (word s k)) q
+orWords-word n r s i h = let q : 0 + i ≡ i = omega arith in from-getD (λ i. bitOr (word r i) (word s i)) 0 n i 0 h ∙ ap (λ (j : ℕ). bitOr (word r j) (word s j)) q
 
 -- of one word each
 pub or-one : (a b : ℕ) → bitOr a b ∷ [] ≡ orWords 1 (a ∷ []) (b ∷ [])

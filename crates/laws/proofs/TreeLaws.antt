@@ -33,18 +33,18 @@ use Rattle.laws.proofs.BranchLaws.{branch-cases, children-dead, childre
 -- ---- the tree without a bound on its depth
 
 module _ (P : Problem) where
-  branch-several : (S : List ℕ) (k : ℕ) → branch P S ≡ some k → 2 ≤ length (bits (word S k))
+  branch-several : (S : List ℕ) (at : ℕ) → branch P S ≡ some at → 2 ≤ length (bits (word S at))
   unfolding branch branchWord
-  branch-several S k e = let t = bind-some _ _ k e in several-true (word S k) (of-find (λ i. several (word S i)) _ k (t .2) .1)
+  branch-several S at e = let t = bind-some _ _ at e in several-true (word S at) (of-find (λ i. several (word S i)) _ at (t .2) .1)
 
-  several-inside : (S : List ℕ) (k : ℕ) → 2 ≤ length (bits (word S k)) → k < length S
-  several-inside S k h = go (ltb k (length S)) refl
+  several-inside : (S : List ℕ) (at : ℕ) → 2 ≤ length (bits (word S at)) → at < length S
+  several-inside S at h = go (ltb at (length S)) refl
     where
-      go : (t : Bool) → ltb k (length S) ≡ t → k < length S
-      go true e = ltb-true k (length S) e
+      go : (t : Bool) → ltb at (length S) ≡ t → at < length S
+      go true e = ltb-true at (length S) e
       go false e =
-          let t = two-bits (word S k) h in
-          absurd (false≢true (sym (zero-bit (t .0)) ∙ ap (λ (w : ℕ). bit w (t .0)) (sym (List·getD-eq-default S 0 (ltb-false k (length S) e))) ∙ t .2))
+          let t = two-bits (word S at) h in
+          absurd (false≢true (sym (zero-bit (t .0)) ∙ ap (λ (w : ℕ). bit w (t .0)) (sym (List·getD-eq-default S 0 (ltb-false at (length S) e))) ∙ t .2))
 
   -- a child has fewer bits than its node, and only bits of the node
   pub children-smaller : (S : List ℕ) → Words S → (U : List ℕ) → In U (children P S) → (size U < size S) × Below U S
@@ -53,14 +53,14 @@ module _ (P : Problem) where
     where
       go : (t : Bool) (o : Option ℕ) → branch P S ≡ o → In U (cond t (Option·elim o [] (restricted S)) []) → (size U < size S) × Below U S
       go true none e n = elim n [ ]
-      go true (some k) e n =
+      go true (some at) e n =
           let t = Memᴰ·of-map _ _ n in
-          let two = branch-several S k e in
-          let inside = several-inside S k two in
-          let there : bit (word S k) (t .0) ≡ true = of-bits (word S k) (t .1) .0 in
-          (subst (λ (W : List ℕ). size W < size S) (t .2) (child-size S k (t .0) inside bd there two), subst (λ (W : List ℕ). Below W S) (t .2) (child-below S k (t .0) inside there))
+          let two = branch-several S at e in
+          let inside = several-inside S at two in
+          let there : bit (word S at) (t .0) ≡ true = of-bits (word S at) (t .1) .0 in
+          (subst (λ (W : List ℕ). size W < size S) (t .2) (child-size S at (t .0) inside bd there two), subst (λ (W : List ℕ). Below W S) (t .2) (child-below S at (t .0) inside there))
       go false none e n = elim n [ ]
-      go false (some k) e n = elim n [ ]
+      go false (some at) e n = elim n [ ]
 
   nodesIn-fuel : (f g : ℕ) (T : List ℕ) → Words T → size T < f → size T < g → nodesIn f P T ≡ nodesIn g P T
   unfolding nodesIn

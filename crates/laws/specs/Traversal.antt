@@ -1,6 +1,6 @@
 -- The search as a walk along the tree's nodes, and the three tables that such a walk needs. Assumes nothing.
--- `cur` is the current node's table. `dec` has the decision at each word that the path to the current node branched at, and the file's words from the last of
--- these on. `alt` has at each such word the values that wait there, and 0 elsewhere. F is the file's table. The words of a path go upwards.
+-- `cur` is the current node's table. `dec` has the decision at each word that the path to the current node branched at, and the file's words behind the
+-- last of these. `alt` has at each such word the values that wait there, and 0 elsewhere. F is the file's table. The words of a path go upwards.
 use mathlib.Core.Path.{_≡_}
 use mathlib.Core.Bool.{true, cond}
 use mathlib.Core.List.{List, [], _∷_, _++_, map, flatMap}

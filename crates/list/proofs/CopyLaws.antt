@@ -19,7 +19,7 @@ use Rattle.records.proofs.RecordRefusalLaws.{decoded-at}
 use Rattle.format.specs.Accepting.{problemIn, Usable}
 use Rattle.format.proofs.ContentLaws.{usable-holds}
 use Rattle.list.specs.declared.Constraint.{Constraint}
-use Rattle.list.specs.Listing.{meaning, blank, Listed}
+use Rattle.list.specs.Listed.{meaning, blank, Listed}
 
 -- c has the bytes of record j
 abbrev pub Holds : List ℕ → ℕ → Constraint → Type 0

@@ -25,8 +25,8 @@ use Rattle.list.proofs.Constraint as T
 use Rattle.list.proofs.Constraint.Laws as T′
 
 -- the list by value
-abbrev pub Listing : RattleType
-Listing = Array T.the-row 64
+abbrev pub ConstraintArray : RattleType
+ConstraintArray = Array T.the-row 64
 
 abbrev pub array : Ty
 array = tyArray (lone (T.the-row .mir)) 64
@@ -41,12 +41,12 @@ module _ {M : Type 1} (𝓤 : URA M) (H : Heap 𝓤) (A : Atoms 𝓤) (W : Given
   Elements = arr-parts (shares T.the-row) (length cs) .part fullShare cs b 0
 
   -- the array in memory is its elements
-  pub lays : ent 𝓤 (sep 𝓤 (H .at fullShare array b 0 av) (sem 𝓤 H A (Listing .own cs (av ∷ [])))) (sem 𝓤 H A Elements)
+  pub lays : ent 𝓤 (sep 𝓤 (H .at fullShare array b 0 av) (sem 𝓤 H A (ConstraintArray .own cs (av ∷ [])))) (sem 𝓤 H A Elements)
   unfolding partOf
   lays =
-      qed W (‵ (fat fullShare array b 0 av) ∷ ‵ (Listing .own cs (av ∷ [])) ∷ []) ∵
+      qed W (‵ (fat fullShare array b 0 av) ∷ ‵ (ConstraintArray .own cs (av ∷ [])) ∷ []) ∵
       use1 W (‵ (cellAt fullShare (array ∷ []) (av ∷ []) b 0)) (W .laws .at-raw fullShare array b 0 av) $ fjoin ! $
-      fpack ! (List Val) (λ vs. fsep (cellAt fullShare (array ∷ []) vs b 0) (Listing .own cs vs)) (av ∷ []) $
+      fpack ! (List Val) (λ vs. fsep (cellAt fullShare (array ∷ []) vs b 0) (ConstraintArray .own cs vs)) (av ∷ []) $
       use1 W (‵ (arr-parts (shares T.the-row) 64 .part fullShare cs b 0)) (array-apart 𝓤 H A W T.the-row fullShare tt 64 cs b 0) $ fsplit ! $ drop ! $
       feqI ! ℕ (length cs) (length cs) refl $ fjoin ! $ done !
 
@@ -55,8 +55,8 @@ module _ {M : Type 1} (𝓤 : URA M) (H : Heap 𝓤) (A : Atoms 𝓤) (W : Given
   unfolding partOf
   backs =
       qed W (‵ Elements ∷ []) ∵ fsplit ! $ drop ! $ feqI ! ℕ (length cs) 64 e $ fjoin ! $
-      use1 W (‵ (partAt Listing fullShare cs b 0)) (array-whole 𝓤 H A W T.the-row fullShare 64 cs b 0) $ fpick ! (λ vs. fsplit ! $ move ! (1 ∷ []) $
-      peeks ! Listing (Is Listing) (shows 𝓤 H A Listing) cs vs (λ is. drop ! $
+      use1 W (‵ (partAt ConstraintArray fullShare cs b 0)) (array-whole 𝓤 H A W T.the-row fullShare 64 cs b 0) $ fpick ! (λ vs. fsplit ! $ move ! (1 ∷ []) $
+      peeks ! ConstraintArray (Is ConstraintArray) (shows 𝓤 H A ConstraintArray) cs vs (λ is. drop ! $
       rewrite ! 0 (λ (us : List Val). ‵ (cellAt fullShare (array ∷ []) us b 0)) (array-tells T.the-row (LL.vals T.the-type T′.the-laws)
       (LL.tells T.the-type T′.the-laws) 64 cs vs is) refl $
       use1 W (‵ (fat fullShare array b 0 av)) (W .laws .raw-at fullShare array b 0 av) $ done !))

@@ -26,7 +26,7 @@ use Rattle.format.specs.Accepting.{problemIn, Usable}
 use Rattle.format.proofs.ContentLaws.{usable-counts}
 use Rattle.steps.specs.Step.{Step}
 use Rattle.list.specs.declared.Constraint.{Constraint}
-use Rattle.list.specs.Listing.{meaning, blank, OfFile, Listed, Ran}
+use Rattle.list.specs.Listed.{meaning, blank, OfFile, Listed, Ran}
 use Rattle.list.proofs.StepWalkLaws.{Walked, walk-start, walk-step, walk-lent, walk-ran}
 
 module _ (file : List ℕ) (p : Parts) (T : List ℕ) where

@@ -17,7 +17,7 @@ use Rattle.laws.proofs.SupportLaws.{narrowed-below}
 use Rattle.laws.proofs.RoundLaws.{run-below, run-append}
 use Rattle.laws.proofs.CallLaws.{lendable-below}
 use Rattle.steps.specs.Step.{Step}
-use Rattle.list.specs.Listing.{Ran}
+use Rattle.list.specs.Listed.{Ran}
 
 module _ (P : Problem) where
   -- the first j of these steps make U of T, and take the count of struck bits from m to n

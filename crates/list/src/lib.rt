@@ -15,7 +15,7 @@ ghost use Rattle.laws.specs.Lent.{lendable};
 ghost use Rattle.layout.specs.declared.Parts.{Parts};
 ghost use Rattle.format.specs.Accepting.{problemIn, Usable};
 ghost use Rattle.steps.specs.Step.{Step};
-ghost use Rattle.list.specs.Listing.{meaning, OfFile, Listed, Ran};
+ghost use Rattle.list.specs.Listed.{meaning, OfFile, Listed, Ran};
 
 // A record of the file: its kind, then its arguments, unused ones 0.
 #[repr(C)]

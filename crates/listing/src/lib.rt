@@ -45,7 +45,7 @@ fn numeral(n: usize, lines: &mut [u8], at: usize) -> usize
     end + 1
 }
 
-// A number directly behind a byte: the letter that it is the position of, or the space before its field.
+// A number directly behind a byte: the letter of the variable whose position it is, or the space before its field.
 fn marked(mark: u8, n: usize, lines: &mut [u8], at: usize) -> usize
     requires { ⌜ Capacity (now lines) at (mark ∷ decimal n) ⌝ }
     ensures { λ r. ⌜ Wrote (now (lines .entry)) at (mark ∷ decimal n) (now (lines .exit)) r ⌝ }

@@ -72,5 +72,5 @@ pub record Demand (r : Reading) : Type 0 where
   pub every-call : (T : List ℕ) (n : ℕ) → settle r T ≡ refused n → (j : ℕ) → step r j T ≡ refused n
   -- "the table after the list is the starting one"
   pub refusing : (T : List ℕ) (n : ℕ) → settle r T ≡ refused n → (cs : List Call) → calls r cs T ≡ T
-  pub listing : (a : Accepted) → r ≡ answered a → (T : List ℕ) → Words T → (m : Settlement) → settle r T ≡ answered m → (cs : List Call) → ListClaim a T m cs
+  pub calling : (a : Accepted) → r ≡ answered a → (T : List ℕ) → Words T → (m : Settlement) → settle r T ≡ answered m → (cs : List Call) → ListClaim a T m cs
   pub searching : (a : Accepted) → r ≡ answered a → (budget : ℕ) (room A : List ℕ) (z : Searched) → search r budget room A ≡ answered z → SearchClaim a budget z

@@ -55,17 +55,17 @@ module _ (x v : List ℕ) (lx : length x ≡ 64) (bx : Words x) (bv : (i : ℕ) 
       let t = of-and-bit (word x i) (2 ^ 64 - 1 - word v i) b (ap (λ (a : ℕ). bit a b) (sym (differing-here i h)) ∙ e) in
       (t .0, not-true (bit (word v i) b) (sym (bit-flip 64 (word v i) b (bv i) (bx i b (t .0))) ∙ t .1))
 
-  differing-within : (i : ℕ) → i < 64 → (k : ℕ) → Within (word (differingAt x v i) k) (word x k)
+  differing-within : (i : ℕ) → i < 64 → (j : ℕ) → Within (word (differingAt x v i) j) (word x j)
   differing-within zero h zero b e = of-lacking 0 b h e .0
   differing-within (suc i) h zero b e = of-and-bit (word x 0) (word v 0) b (ap (λ (a : ℕ). bit a b) (sym (differing-lengths i)) ∙ e) .0
-  differing-within i h (suc k) b e = go (eqb (suc k) i) refl
+  differing-within i h (suc j) b e = go (eqb (suc j) i) refl
     where
-      go : (t : Bool) → eqb (suc k) i ≡ t → bit (word x (suc k)) b ≡ true
-      go true q = let c = eqb-true (suc k) i q in of-lacking (suc k) b (omega arith) (subst (λ (m : ℕ). bit (word (differingAt x v m) (suc k)) b ≡ true) (sym c) e) .0
-      go false q = ap (λ (a : ℕ). bit a b) (sym (differing-else i k (eqb-false (suc k) i q))) ∙ e
+      go : (t : Bool) → eqb (suc j) i ≡ t → bit (word x (suc j)) b ≡ true
+      go true q = let c = eqb-true (suc j) i q in of-lacking (suc j) b (omega arith) (subst (λ (m : ℕ). bit (word (differingAt x v m) (suc j)) b ≡ true) (sym c) e) .0
+      go false q = ap (λ (a : ℕ). bit a b) (sym (differing-else i j (eqb-false (suc j) i q))) ∙ e
 
   differing-words : (i : ℕ) → i < 64 → Words (differingAt x v i)
-  differing-words i h k b e = bx k b (differing-within i h k b e)
+  differing-words i h j b e = bx j b (differing-within i h j b e)
 
   -- the union of these rows
   pub other-supports : (n : ℕ) → n ≤ 64 → Supports (OfKinds (λ i. InRow (differingAt x v i)) n) textBit 64 (otherThan x v n)

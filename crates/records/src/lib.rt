@@ -1,5 +1,5 @@
 // Constraint records, 4 bytes each: kind, then up to three arguments, unused ones 0. Refusals 7 and 8 of a file with s strings, t numbers and d automata.
-// A record is decoded anew wherever it is wanted; `decode` alone knows the kinds. A reader goes over the records for refusal 7.
+// A record is decoded anew wherever it is wanted; `decode` alone knows how a kind is written. A reader goes over the records for refusal 7.
 //
 // Assumes nothing. `requires` asks what refusals 3 and 4 leave: whole records, at most 64.
 use reader::Reader;

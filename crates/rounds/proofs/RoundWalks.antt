@@ -23,7 +23,7 @@ use Rattle.layout.specs.declared.Parts.{Parts}
 use Rattle.format.specs.Accepting.{problemIn}
 use Rattle.format.proofs.ContentLaws.{Counts}
 use Rattle.steps.specs.Step.{Step}
-use Rattle.list.specs.Listing.{Ran}
+use Rattle.list.specs.Listed.{Ran}
 use Rattle.list.proofs.StepWalkLaws.{Walked, walk-step, walk-lent, ran-walk}
 
 module _ (P : Problem) where

@@ -39,17 +39,17 @@ tabulated-word f n i h = let q : 0 + i ≡ i = omega arith in from-getD f 0 n i 
 -- r has n words, the first i of which are f's
 pub record Filled (n : ℕ) (f : ℕ → ℕ) (i : ℕ) (r : List ℕ) : Type 0 where
   pub size : length r ≡ n
-  pub done : (k : ℕ) → k < i → word r k ≡ f k
+  pub done : (j : ℕ) → j < i → word r j ≡ f j
 
 pub fill-start : (n : ℕ) (f : ℕ → ℕ) (r : List ℕ) → length r ≡ n → Filled n f 0 r
-fill-start n f r e = record { size = e; done = λ k h. absurd (not-suc-le-zero h) }
+fill-start n f r e = record { size = e; done = λ j h. absurd (not-suc-le-zero h) }
 
 pub fill-step : (n : ℕ) (f : ℕ → ℕ) (i : ℕ) (r : List ℕ) (v : ℕ) → i < n → v ≡ f i → Filled n f i r → Filled n f (i + 1) (set r i v)
 fill-step n f i r v h e t = rw add-one (record {
   size = simp length-set (t .size);
-  done = λ k l. ⊎-elim
+  done = λ j l. ⊎-elim
       (λ q. rw q (getD-set-same r i v 0 (rw (t .size) h) ∙ e))
-      (λ g. getD-set-other r i k v 0 (omega arith) ∙ t .done k g)
+      (λ g. getD-set-other r i j v 0 (omega arith) ∙ t .done j g)
       (eq-or-lt-of-le (le-of-suc-le-suc l));
 })
 

@@ -155,15 +155,15 @@ module _ (r : List ℕ) (m : ℕ) (bd : Words r) (ran : Run r m) where
 
     -- a longest string, with symbol b at place j + 1
     with-symbol : ℕ → ℕ → ℕ → ℕ
-    with-symbol j b k = cond (eqb k j) b (pick k)
+    with-symbol j b i = cond (eqb i j) b (pick i)
 
-    with-symbol-in : (j b : ℕ) → bit (word r (suc j)) b ≡ true → (k : ℕ) → k < m → bit (word r (suc k)) (with-symbol j b k) ≡ true
+    with-symbol-in : (j b : ℕ) → bit (word r (suc j)) b ≡ true → (i : ℕ) → i < m → bit (word r (suc i)) (with-symbol j b i) ≡ true
     unfolding with-symbol
-    with-symbol-in j b e k h = go (eqb k j) refl
+    with-symbol-in j b e i h = go (eqb i j) refl
       where
-        go : (s : Bool) → eqb k j ≡ s → bit (word r (suc k)) (cond s b (pick k)) ≡ true
-        go true q = subst (λ (i : ℕ). bit (word r (suc i)) b ≡ true) (sym (eqb-true k j q)) e
-        go false q = pick-in k h
+        go : (s : Bool) → eqb i j ≡ s → bit (word r (suc i)) (cond s b (pick i)) ≡ true
+        go true q = subst (λ (i : ℕ). bit (word r (suc i)) b ≡ true) (sym (eqb-true i j q)) e
+        go false q = pick-in i h
 
     sound-length : (b : ℕ) → bit (short r m) b ≡ true → (w : List ℕ) × InRow r w × (bit (textBit w 0) b ≡ true)
     sound-length b e =

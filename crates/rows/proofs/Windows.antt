@@ -34,7 +34,7 @@ module _ {K : Type 0} (Ok : K → Type 0) (m : K → List ℕ) (t : List ℕ) (s
     take-length v ok = length-take-le p (m v) (long v ok)
 
     take-kept : (j : ℕ) → j < p → word r (suc j) ≡ word t (suc j)
-    take-kept j l = let q : 0 + j ≡ j = omega arith in win .kept j l ∙ ap (λ (k : ℕ). word t (suc k)) q
+    take-kept j l = let q : 0 + j ≡ j = omega arith in win .kept j l ∙ ap (λ (i : ℕ). word t (suc i)) q
 
     take-sound : (i b : ℕ) → i < 64 → bit (word r i) b ≡ true → (v : K) × Ok v × (bit (textBit (take p (m v)) i) b ≡ true)
     take-sound zero b h e =

@@ -14,7 +14,7 @@ pub struct Pair {
     pub y: [u64; 64],
 }
 
-// How many places, from the first on, each allow a symbol. The row is lent, here and in `cut`: trimming is every step's work, and a row by value is copied.
+// How many places, from the first on, each allow a symbol. The row is lent, here and in `cut`: every relation but Regular trims, and a row by value is copied.
 fn run(row: &[u64; 64]) -> usize
     ensures { λ r. ⌜ Run (now (row .entry)) r ⌝ }
 {

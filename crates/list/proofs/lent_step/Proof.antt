@@ -56,7 +56,7 @@ use Rattle.layout.proofs.Parts as P
 use Rattle.layout.proofs.Parts.Laws as P′
 use Rattle.format.specs.Accepting.{problemIn, Usable}
 use Rattle.steps.specs.Step.{Step}
-use Rattle.list.specs.Listing.{meaning, blank, Listed}
+use Rattle.list.specs.Listed.{meaning, blank, Listed}
 use Rattle.list.specs.declared.Constraint.{Constraint}
 use Rattle.list.proofs.ListedLaws.{inside, asks-one, steps-one}
 use Rattle.list.proofs.Constraint as T

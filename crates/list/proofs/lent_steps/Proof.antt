@@ -64,7 +64,7 @@ use Rattle.layout.proofs.Parts as P
 use Rattle.layout.proofs.Parts.Laws as P′
 use Rattle.format.specs.Accepting.{problemIn, Usable}
 use Rattle.steps.specs.Step.{Step}
-use Rattle.list.specs.Listing.{Listed}
+use Rattle.list.specs.Listed.{Listed}
 use Rattle.list.specs.declared.Constraint.{Constraint}
 use Rattle.list.proofs.ListedLaws.{Reached, reached-first, reached-length, reached-few, reached-ran, asks-next, reached-next}
 use Rattle.list.proofs.Constraint as T

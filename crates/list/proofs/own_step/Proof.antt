@@ -55,9 +55,9 @@ use Rattle.layout.proofs.Parts as P
 use Rattle.layout.proofs.Parts.Laws as P′
 use Rattle.format.specs.Accepting.{problemIn, Usable}
 use Rattle.steps.specs.Step.{Step}
-use Rattle.list.specs.Listing.{Listed}
+use Rattle.list.specs.Listed.{Listed}
 use Rattle.list.specs.declared.Constraint.{Constraint}
-use Rattle.list.proofs.LendingLaws.{Listing, array, av, Elements, lays, backs}
+use Rattle.list.proofs.LendingLaws.{ConstraintArray, array, av, Elements, lays, backs}
 use Rattle.list.proofs.Constraint as T
 use Rattle.list.proofs.Constraint.Laws as T′
 use Rattle.list.proofs.lent_step as callee
@@ -71,7 +71,7 @@ use Rattle.list.proofs.own_step.Code as code
 
 abbrev stayed : Stays (fn.ended .signature .params) (fn.ended .kept)
 stayed = (
-  stay-none (λ _. Listing) yes,
+  stay-none (λ _. ConstraintArray) yes,
   (
     stay-none (λ _. usize) yes,
     (
@@ -156,10 +156,10 @@ module _ {M : Type 1} (𝓤 : URA M) (H : Heap 𝓤) (A : Atoms 𝓤) (W : Given
       says ! h $ frame ! $ done !
 
   exits : (r : ℕ) (u : Val) (zs : List ℕ) → Said r zs → length zs ≡ length ts
-      → ent 𝓤 (⋆ 𝓤 H A (‵ (u32 .own r (u ∷ [])) ∷ (‵ (flft κf qf) ⊛ ‵ (flft κt qt) ⊛ ‵ ftrue) ∷ ‵ (finally u64 γt zs) ∷ ‵ (Listing .own cs (am ∷ [])) ∷ ‵
+      → ent 𝓤 (⋆ 𝓤 H A (‵ (u32 .own r (u ∷ [])) ∷ (‵ (flft κf qf) ⊛ ‵ (flft κt qt) ⊛ ‵ ftrue) ∷ ‵ (finally u64 γt zs) ∷ ‵ (ConstraintArray .own cs (am ∷ [])) ∷ ‵
       (ShrSlice (named 0) κf u8 .own f (m ∷ [])) ∷ ‵ (P.the-row .own p (pm ∷ [])) ∷ [])) (Post u)
   exits r u zs said same =
-      qed W (‵ (u32 .own r (u ∷ [])) ∷ (‵ (flft κf qf) ⊛ ‵ (flft κt qt) ⊛ ‵ ftrue) ∷ ‵ (finally u64 γt zs) ∷ ‵ (Listing .own cs (am ∷ [])) ∷ ‵ (ShrSlice
+      qed W (‵ (u32 .own r (u ∷ [])) ∷ (‵ (flft κf qf) ⊛ ‵ (flft κt qt) ⊛ ‵ ftrue) ∷ ‵ (finally u64 γt zs) ∷ ‵ (ConstraintArray .own cs (am ∷ [])) ∷ ‵ (ShrSlice
       (named 0) κf u8 .own f (m ∷ [])) ∷ ‵ (P.the-row .own p (pm ∷ [])) ∷ []) ∵
       suffices ! _ (ends-at 𝓤 H A fn.ended stayed (fn.clauses 𝓤 H A mem run) W (((κf, (κt, tt)), (qf, (qt, tt)), bounds, x, at), tt) u r (
         tt,
@@ -181,7 +181,7 @@ module _ {M : Type 1} (𝓤 : URA M) (H : Heap 𝓤) (A : Atoms 𝓤) (W : Given
     walk : Holds (hasTy array am) × WT am → Room u8 (length bytes) → Holds (hasTy P′.mir pm) × WT pm → Room u64 (length ts) → Pre
         → ent 𝓤 (onEntry 𝓤 H A fn.signature (κf, (κt, tt)) (qf, (qt, tt)) x at) (WpFn 𝓤 H C Λ code.function (am ∷ vint w64 i ∷ m ∷ pm ∷ s ∷ []) Post)
     walk ga gf gp gt h =
-        qed W ((‵ (flft κf qf) ⊛ ‵ (flft κt qt) ⊛ ‵ ftrue) ∷ ‵ (owns (Listing ∷ usize ∷ ShrSlice (named 0) κf u8 ∷ P.the-row ∷ MutSlice (named 1) κt u64
+        qed W ((‵ (flft κf qf) ⊛ ‵ (flft κt qt) ⊛ ‵ ftrue) ∷ ‵ (owns (ConstraintArray ∷ usize ∷ ShrSlice (named 0) κf u8 ∷ P.the-row ∷ MutSlice (named 1) κt u64
         ∷ []) x at) ∷ []) ∵
         enter ! C Λ code.function (am ∷ vint w64 i ∷ m ∷ pm ∷ s ∷ []) _ $
         alloc1 ! (λ l₀. alloc1 ! (λ l₁. alloc1 ! (λ l₂. alloc1 ! (λ l₃. alloc1 ! (λ l₄. alloc1 ! (λ l₅. alloc1 ! (λ l₆. alloc1 ! (λ l₇. alloc1 !
@@ -201,7 +201,7 @@ module _ {M : Type 1} (𝓤 : URA M) (H : Heap 𝓤) (A : Atoms 𝓤) (W : Given
         (whole !)))) (no-more !)))) (from ! (stop !)) (init ! 0 refl (tt, (tt, (record { fits = gt .0 }, tt)))) $
         -- [_10; …; _0; …; the tokens; what the parameters own]
         move ! (8 ∷ 23 ∷ 22 ∷ []) $ move ! (1 ∷ []) $ fsplit ! $
-        use1 W (‵ (Listing .own cs (am ∷ [])) ⊛ ‵ (Listing .own cs (am ∷ []))) (array-copy 𝓤 H A W T.the-row
+        use1 W (‵ (ConstraintArray .own cs (am ∷ [])) ⊛ ‵ (ConstraintArray .own cs (am ∷ []))) (array-copy 𝓤 H A W T.the-row
         (LL.copy T.the-type T′.the-copy 𝓤 H A W) 64 .twice cs (am ∷ [])) $ split ! $
         move ! (3 ∷ 0 ∷ []) $ use2 W (‵ (Elements 𝓤 H A W cs full l₆)) (lays 𝓤 H A W cs full l₆) $
         -- [the elements; what the array owns; what the others own; the tokens; _10; …]: the elements are lent for a lifetime of this call
@@ -271,7 +271,7 @@ fn-meets : {M : Type 1} (𝓤 : URA M) (H : Heap 𝓤) (A : Atoms 𝓤) → Give
     (𝓣 .C #list·lent-step) (Callee 𝓤 H A mem run)
     → Meets 𝓤 H A fn.signature (WpFn 𝓤 H (𝓣 .C) (𝓣 .Λ) code.function) (fn.spec 𝓤 H A mem run)
 fn-meets 𝓤 H A W mem run 𝓣 known = walk-meets 𝓤 H A fn.ended stayed W (
-  goes-none 𝓤 H A W 2 (λ _. Listing) yes (λ κs x f. refl),
+  goes-none 𝓤 H A W 2 (λ _. ConstraintArray) yes (λ κs x f. refl),
   (
     goes-none 𝓤 H A W 2 (λ _. usize) yes (λ κs x f. refl),
     (

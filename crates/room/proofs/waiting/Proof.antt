@@ -11,10 +11,10 @@ use Rattle.room.proofs.waiting.Reads as reads
 use Rattle.room.proofs.waiting.Lts as lts
 
 abbrev Inv-loop : tie.InvT-loop
-Inv-loop table k₀ at = (at ≤ length table) × ((j : ℕ) → at ≤ j → word table j ≡ 0)
+Inv-loop table at₀ at = (at ≤ length table) × ((j : ℕ) → at ≤ j → word table j ≡ 0)
 
 abbrev μ-loop : tie.MeasureT-loop
-μ-loop table k₀ at = at
+μ-loop table at₀ at = at
 
 loop-holds : tie.Need-loop-holds Inv-loop μ-loop
 loop-holds c = (search needs, λ j h. List·getD-eq-default (c .args .table .now) 0 h)
