@@ -12,9 +12,10 @@ python3 tests/edges.py || exit 1
 python3 tests/nodes.py || exit 1
 python3 tests/text.py || exit 1
 
-# One job more than there are processors, since a job also waits; at most 4, for memory.
-jobs=$(($(getconf _NPROCESSORS_ONLN) + 1))
-[ "$jobs" -le 4 ] || jobs=4
+# Jobs run in batches, and a batch ends with its slowest job: three for each processor leave none idle for long. A job takes up to 1.4 GiB of memory.
+jobs=$((3 * $(getconf _NPROCESSORS_ONLN)))
+fitting=$(($(getconf _PHYS_PAGES) / 1024 * $(getconf PAGE_SIZE) / 1024 / 1500))
+[ "$jobs" -le "$fitting" ] || jobs=$((fitting > 1 ? fitting : 1))
 export RT_JOBS="${RT_JOBS:-$jobs}"
 
 work=$(mktemp -d) || exit 1
@@ -22,10 +23,13 @@ trap 'rm -rf "$work"' EXIT
 { rt ci 2>&1; echo $? > "$work/status"; } | tee "$work/log"
 [ "$(cat "$work/status")" = 0 ] || exit 1
 
-# The gate has just left the program in target/bin; what it has proved is put into an archive for C and Rust.
+# The gate has just left the program in target/bin. What it has proved is put into an archive for C and Rust, while tests run that need none.
+rt staticlib cobleskeg_c > "$work/archive" 2>&1 &
+archive=$!
 python3 tests/clash.py || exit 1
 python3 tests/doubtful.py || exit 1
-rt staticlib cobleskeg_c || exit 1
+wait "$archive" || { cat "$work/archive"; exit 1; }
+tail -n 1 "$work/archive"
 python3 tests/solve.py || exit 1
 python3 tests/examples.py || exit 1
 python3 tests/interface.py || exit 1
