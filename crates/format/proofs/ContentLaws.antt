@@ -1,19 +1,21 @@
 -- What the parts of an accepted file hold: its problem by the parts' counts and bytes, and that this is what reading the file gives. Assumes nothing.
 use mathlib.Core.Path.{_≡_, sym, ap, _∙_}
 use mathlib.Core.List.{List, map}
-use Prim.Native.Nat.{ℕ, _+_, _*_, _≤_, _<_}
+use mathlib.Core.Option.{some}
+use Prim.Native.Nat.{ℕ, _+_, _-_, _*_, _≤_, _<_}
 use native.Mathlib.Omega.{arith}
-use lib.ListN.{length, take, drop}
+use lib.ListN.{length, getD, take, drop}
 use lib.Seq.{length-take-le}
-use Rattle.model.specs.Constraints.{regular, width}
+use Rattle.model.specs.Constraints.{always, regular, width}
 use Rattle.model.specs.Replies.{answered}
-use Rattle.model.specs.Layout.{Bytes, little}
+use Rattle.model.specs.Layout.{Bytes, little, part}
 use Rattle.model.specs.Reading.{decode, pieces, reading}
 use Rattle.layout.specs.declared.Parts.{Parts}
 use Rattle.layout.specs.Replied.{partsOf, PartsFit}
 use Rattle.laws.specs.Inclusion.{In}
 use Rattle.laws.proofs.ListLaws.{collect-in}
 use Rattle.laws.proofs.ReadingLaws.{take-bytes, decode-machine, Sound, problemOf-sound}
+use Rattle.records.proofs.RecordRefusalLaws.{decoded-at}
 use Rattle.format.specs.Accepting.{accepted, givenBy, contentOf, problemIn, tableIn, Usable}
 use Rattle.format.proofs.AcceptLaws.{Holds, problemOf-holds, Held, reading-held}
 
@@ -88,3 +90,14 @@ module _ (file : List ℕ) (p : Parts) where
     pub usable-table : tableIn file p ≡ map little (pieces (64 * p .s + p .t) 8 (take (p .«constraints_at») file))
     unfolding partsOf
     usable-table = usable-holds .table ∙ ap (λ (n : ℕ). map little (pieces (64 * p .s + p .t) 8 (take n file))) (sym (u .fits .table-end))
+
+    -- ---- the constraints: record j of the bytes between the table and the automata is constraint j
+
+    pub usable-record : (j : ℕ) → j < p .c
+        → decode (p .s) (p .t) (p .d) (part (4 * j) 4 (take (p .«automata_at» - p .«constraints_at») (drop (p .«constraints_at») file)))
+        ≡ some (getD (problemIn file p .constraints) j (always 0))
+    unfolding partsOf
+    usable-record j less =
+        let n : p .«automata_at» - p .«constraints_at» ≡ 4 * p .c = omega (arith, u .fits .constraints-end) in
+        ap (λ (n : ℕ). decode (p .s) (p .t) (p .d) (part (4 * j) 4 (take n (drop (p .«constraints_at») file)))) n
+        ∙ decoded-at (p .s) (p .t) (p .d) (p .c) _ (problemIn file p .constraints) (usable-holds .decoded) j less

@@ -2,22 +2,18 @@
 use mathlib.Core.Path.{_≡_, refl, ap, _∙_}
 use mathlib.Core.Logic.{⊎-elim}
 use mathlib.Core.List.{List}
-use mathlib.Core.Option.{some}
 use Prim.Native.Nat.{ℕ, _+_, _-_, _*_, _≤_, _<_}
 use native.Mathlib.Nat.{not-suc-le-zero, le-of-suc-le-suc, eq-or-lt-of-le}
 use native.Mathlib.Numerals.{add-one}
 use native.Mathlib.Omega.{arith}
 use lib.ListN.{length, getD, set, take, drop, length-set}
 use lib.Seq.{getD-set-same, getD-set-other}
-use Rattle.model.specs.Constraints.{always}
 use Rattle.model.specs.Layout.{part}
 use Rattle.model.specs.Reading.{decode}
 use Rattle.layout.specs.declared.Parts.{Parts}
-use Rattle.layout.specs.Replied.{partsOf}
 use Rattle.records.proofs.RecordLaws.{of-bytes}
-use Rattle.records.proofs.RecordRefusalLaws.{decoded-at}
-use Rattle.format.specs.Accepting.{problemIn, Usable}
-use Rattle.format.proofs.ContentLaws.{usable-holds}
+use Rattle.format.specs.Accepting.{Usable}
+use Rattle.format.proofs.ContentLaws.{usable-record}
 use Rattle.list.specs.declared.Constraint.{Constraint}
 use Rattle.list.specs.Listed.{meaning, blank, Listed}
 
@@ -52,16 +48,8 @@ copied-next bytes j cs c h is t = rw add-one (record {
 abbrev records : List ℕ → Parts → List ℕ
 records file p = take (p .«automata_at» - p .«constraints_at») (drop (p .«constraints_at») file)
 
-record-decodes : (file : List ℕ) (p : Parts) → Usable file p → (j : ℕ) → j < p .c
-    → decode (p .s) (p .t) (p .d) (part (4 * j) 4 (records file p)) ≡ some (getD (problemIn file p .constraints) j (always 0))
-unfolding partsOf
-record-decodes file p u j less =
-    let n : p .«automata_at» - p .«constraints_at» ≡ 4 * p .c = omega (arith, u .fits .constraints-end) in
-    ap (λ (n : ℕ). decode (p .s) (p .t) (p .d) (part (4 * j) 4 (take n (drop (p .«constraints_at») file)))) n
-    ∙ decoded-at (p .s) (p .t) (p .d) (p .c) _ (problemIn file p .constraints) (usable-holds file p u .decoded) j less
-
 pub copied-listed : (file : List ℕ) (p : Parts) (cs : List Constraint) (j : ℕ) → Usable file p → p .c ≤ j → Copied (records file p) j cs → Listed file p cs
 copied-listed file p cs j u e t = record {
   long = omega (arith, u .fits .constraints-most, t .size);
-  at = λ i h. t .done i (omega arith) p ∙ record-decodes file p u i h;
+  at = λ i h. t .done i (omega arith) p ∙ usable-record file p u i h;
 }

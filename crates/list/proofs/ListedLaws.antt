@@ -24,7 +24,9 @@ use Rattle.records.specs.declared.Decoded.the-variants.{Constraint as One, NotO
 use Rattle.records.specs.Records.{constraintOf, decodedOf}
 use Rattle.format.specs.Accepting.{problemIn, Usable}
 use Rattle.format.proofs.ContentLaws.{usable-counts}
-use Rattle.steps.specs.Step.{Step}
+use Rattle.steps.specs.declared.Struck.{Struck}
+use Rattle.steps.specs.Step.{Step, Steps}
+use Rattle.steps.proofs.CountLaws.{struck-short}
 use Rattle.list.specs.declared.Constraint.{Constraint}
 use Rattle.list.specs.Listed.{meaning, blank, OfFile, Listed, Ran}
 use Rattle.list.proofs.StepWalkLaws.{Walked, walk-start, walk-step, walk-lent, walk-ran}
@@ -53,10 +55,15 @@ module _ (file : List ℕ) (p : Parts) (T : List ℕ) where
           let same : constraintOf r ≡ pre .2 .is = Option·some-injective _ _ (sym (ap decodedOf q) ∙ decoded) in
           (pre .0, pre .1, subst (λ (d : model.Constraint). In d (P .constraints)) (sym same) (pre .2 .there))
 
-      pub meant-step : {U : List ℕ} {n : ℕ} → Step P (constraintOf r) T U n → (d : model.Constraint) → meaning p c ≡ some d → Step P d T U n
+      -- what all arguments lost fits a `u32`
+      pub few-lost : {U : List ℕ} {n : Struck} → Steps P (constraintOf r) T U n → n .x + n .y + n .z < 4294967296
+      few-lost {U} s = omega (arith, s .count, struck-short T U, lendable-length P T (pre .1), usable-counts file p (pre .0) .most-words)
+
+      pub meant-step : {U : List ℕ} {n : Struck} → Steps P (constraintOf r) T U n → (d : model.Constraint) → meaning p c ≡ some d → Step P d T U (n .x + n .y + n .z)
       unfolding decodedOf meaning
       meant-step {U} {n} s d m =
-          subst (λ (b : model.Constraint). Step P b T U n) (Option·some-injective _ _ (sym (ap decodedOf q) ∙ e ∙ m)) s
+          subst (λ (b : model.Constraint). Step P b T U (n .x + n .y + n .z)) (Option·some-injective _ _ (sym (ap decodedOf q) ∙ e ∙ m))
+          (record { table = s .table; count = s .count })
 
   -- ---- constraint j of the list
 

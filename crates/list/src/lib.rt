@@ -68,7 +68,8 @@ pub fn record_step(c: Constraint, file: &[u8], p: layout::Parts, table: &mut [u6
     else {
         return 0;
     };
-    steps::narrow(file, p, r, table)
+    let n = steps::narrow(file, p, r, table);
+    n.x + n.y + n.z
 }
 
 // The step of constraint j of the list.

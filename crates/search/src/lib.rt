@@ -10,7 +10,8 @@ ghost use Rattle.model.specs.Reading.{pieces};
 ghost use Rattle.model.specs.Tree.{searching};
 ghost use Rattle.laws.specs.Traversal.{visit};
 ghost use Rattle.format.specs.Accepting.{problemIn, tableIn, Usable};
-ghost use Rattle.search.specs.Visits.{wordsIn, StackIn, leftIn, GoesDown, GoesBack, Visits};
+ghost use Rattle.index.specs.Index.{Index};
+ghost use Rattle.search.specs.Visits.{wordsIn, root, Standing, StandsIn, leftIn, GoesDown, GoesBack, Visits};
 ghost use Rattle.search.specs.Outcomes.{outcomeOf};
 
 // How a search ends, with the nodes that it visited.
@@ -20,77 +21,111 @@ pub enum Outcome {
     Spent(u32),
 }
 
+// Where a search stands. The current table is a child at word `from` of a settled table, or any table where there is no such word; before `depth` there is
+// nothing to branch on, and from there on nothing waits; the kept table was branched at word `kept`.
+pub struct Path {
+    pub from: usize,
+    pub depth: usize,
+    pub kept: usize,
+}
+
 // What visiting one node says: it is solved, or it is dead and none waits, or the next one is ready.
 enum Visited {
     Solved,
     Over,
-    On,
+    On(Path),
 }
 
 // A node at which every variable has a value: it is solved, or its first child is next.
-fn go_down(room: &mut [u64], m: usize) -> Visited
-    requires { ⌜ 3 * m ≤ length (now room) ⌝ }
-    ensures { λ r. ⌜ GoesDown m (now (room .entry)) (now (room .exit)) r ⌝ }
+fn go_down(room: &mut [u64], m: usize, depth: usize) -> Visited
+    requires { ⌜ (3 * m ≤ length (now room)) × (depth ≤ m) ⌝ }
+    ensures { λ r. ⌜ GoesDown m depth (now (room .entry)) (now (room .exit)) r ⌝ }
 {
-    let at = room::branch(&room[..m]);
+    let at = room::branch(&room[..m], depth);
     if at == m {
         return Visited::Solved;
     }
     room::down(room, m, at);
-    Visited::On
+    Visited::On(Path {
+        from: at,
+        depth: at + 1,
+        kept: at,
+    })
 }
 
-// A dead node: of the values that wait the lowest at the last such word is next, where there is one.
-fn go_back(bytes: &[u8], room: &mut [u64], m: usize) -> Visited
-    requires { ⌜ (length (now bytes) ≡ 8 * m) × (3 * m ≤ length (now room)) ⌝ }
-    ensures { λ r. ⌜ GoesBack (map little (pieces m 8 (now (bytes .entry)))) m (now (room .entry)) (now (room .exit)) r ⌝ }
+// A dead node: of the values that wait the lowest at the last such word is next, where there is one. It makes a child of the kept table, or, further back, begins
+// with that table's words before it.
+fn go_back(bytes: &[u8], room: &mut [u64], m: usize, path: Path) -> Visited
+    requires { ⌜ (length (now bytes) ≡ 8 * m) × (3 * m ≤ length (now room)) × (path .depth ≤ m) ⌝ }
+    ensures { λ r. ⌜ GoesBack (map little (pieces m 8 (now (bytes .entry)))) m path (now (room .entry)) (now (room .exit)) r ⌝ }
 {
-    let at = room::waiting(&room[2 * m..3 * m]);
-    if at == 0 {
+    let end = room::waiting(&room[2 * m..3 * m], path.depth);
+    if end == 0 {
         return Visited::Over;
     }
-    room::back(bytes, room, m, at - 1);
-    Visited::On
+    let at = end - 1;
+    if at == path.kept {
+        room::sibling(room, m, at);
+        return Visited::On(Path {
+            from: at,
+            depth: end,
+            kept: at,
+        });
+    }
+    room::restart(bytes, room, m, at);
+    Visited::On(Path {
+        from: m,
+        depth: end,
+        kept: path.kept,
+    })
 }
 
 // Visits the current node: settles its table, and goes down into its first child, or back to the last value that waits.
-fn visit(file: &[u8], p: layout::Parts, room: &mut [u64]) -> Visited
-    requires { ⌜ Usable (now file) p × (3 * wordsIn p ≤ length (now room)) × StackIn (now file) p (now room) ⌝ }
-    ensures { λ r. ⌜ Visits (now (file .entry)) p (now (room .entry)) (now (room .exit)) r ⌝ }
+fn visit(file: &[u8], p: layout::Parts, ix: &[u64], room: &mut [u64], path: Path) -> Visited
+    requires { ⌜ Usable (now file) p × (3 * wordsIn p ≤ length (now room)) × (length (now ix) ≡ 32) × Index (problemIn (now file) p) (now ix)
+        × StandsIn (now file) p path (now room) ⌝ }
+    ensures { λ r. ⌜ Visits (now (file .entry)) p path (now (room .entry)) (now (room .exit)) r ⌝ }
 {
     let m = 64 * p.s + p.t;
-    rounds::settle(file, p, &mut room[..m]);
-    if rounds::every_value(&room[..m], p.s) {
-        return go_down(room, m);
+    if waiting::settle(file, p, ix, &mut room[..m], path.from) {
+        return go_down(room, m, path.depth);
     }
     let end = p.constraints_at;
-    go_back(&file[..end], room, m)
+    go_back(&file[..end], room, m, path)
 }
 
 // Visits nodes until one is solved, none is left, or as many as the budget are visited.
 fn explore(
     file: &[u8],
     p: layout::Parts,
+    ix: &[u64],
     budget: u32,
     room: &mut [u64],
     answer: &mut [u64],
 ) -> Outcome
-    requires { ⌜ Usable (now file) p × (3 * wordsIn p ≤ length (now room)) × (length (now answer) ≡ wordsIn p) × StackIn (now file) p (now room) ⌝ }
+    requires { ⌜ Usable (now file) p × (3 * wordsIn p ≤ length (now room)) × (length (now answer) ≡ wordsIn p) × (length (now ix) ≡ 32)
+        × Index (problemIn (now file) p) (now ix) × Standing (now file) p (root p) (now room) (tableIn (now file) p) ⌝ }
     ensures { λ r. ⌜ record { outcome = outcomeOf r; table = now (answer .exit) }
-        ≡ visit (problemIn (now (file .entry)) p) (now (answer .entry)) 0 budget (leftIn (now (file .entry)) p (now (room .entry))) ⌝ }
+        ≡ visit (problemIn (now (file .entry)) p) (now (answer .entry)) 0 budget
+        (leftIn (now (file .entry)) p (now (room .entry)) (tableIn (now (file .entry)) p)) ⌝ }
     ensures { λ r. ⌜ drop (3 * wordsIn p) (now (room .exit)) ≡ drop (3 * wordsIn p) (now (room .entry)) ⌝ }
 {
     let m = 64 * p.s + p.t;
     let mut count: u32 = 0;
+    let mut path = Path {
+        from: m,
+        depth: 0,
+        kept: m,
+    };
     while count < budget {
         count += 1;
-        match visit(file, p, room) {
+        match visit(file, p, ix, room, path) {
             Visited::Solved => {
                 room::copy(&room[..m], answer);
                 return Outcome::Found(count);
             }
             Visited::Over => return Outcome::None(count),
-            Visited::On => {}
+            Visited::On(next) => path = next,
         }
     }
     Outcome::Spent(count)
@@ -112,7 +147,8 @@ pub fn search(
     let m = 64 * p.s + p.t;
     let end = p.constraints_at;
     room::start(&file[..end], room, m);
-    let outcome = explore(file, p, budget, room, answer);
+    let ix = index::of_file(file, p);
+    let outcome = explore(file, p, &ix, budget, room, answer);
     room::clear(&mut room[..3 * m]);
     outcome
 }

@@ -4,7 +4,7 @@ use mathlib.Core.Bool.{not}
 use mathlib.Core.List.{List, [], _∷_, _++_}
 use Prim.Native.Nat.{ℕ, zero, suc, _+_, _*_, _≤_, _<_}
 use native.Mathlib.Omega.{arith}
-use lib.ListN.{length, take, drop, set, take-append-drop, length-take, drop-of-length-le, length-append, List·getD-append}
+use lib.ListN.{length, take, drop, set, take-append-drop, drop-of-length-le, length-append, List·getD-append}
 use lib.Seq.{drop-cons, drop-drop, getD-append-add, set-split, split-at}
 use Rattle.model.specs.Words.{bit, bits, word, size}
 use Rattle.model.specs.Domains.{row}
@@ -36,23 +36,15 @@ below-narrowed P c T U e = subst (λ (W : List ℕ). Below W T) (sym e) (narrowe
 
 -- ---- how many bits there can be
 
-struck-short : (T U : List ℕ) → struck T U ≤ 64 * length T
+pub struck-short : (T U : List ℕ) → struck T U ≤ 64 * length T
 unfolding struck
 struck-short [] U = omega arith
 struck-short (w ∷ T) [] = let a = bits-most w in let r = struck-short T [] in omega arith
 struck-short (w ∷ T) (v ∷ U) = let a = bits-most w in let b = select-length (λ b. not (bit v b)) (bits w) in let r = struck-short T U in omega arith
 
--- in one row, and in one number
-pub row-most : (T : List ℕ) (x : ℕ) (old new : List ℕ) (n : ℕ) → old ≡ row T x → n ≡ struck old new → n ≤ 4096
-unfolding row
-row-most T x old new n e h = let a = struck-short old new in let b = ap length e in omega (arith, length-take 64 (drop (64 * x) T))
-
-pub number-most : (w v n : ℕ) → n ≡ struck (w ∷ []) (v ∷ []) → n ≤ 64
-number-most w v n e = let a = struck-short (w ∷ []) (v ∷ []) in omega arith
-
 -- ---- one word
 
-one-below : (w v : ℕ) → Within v w → Below (v ∷ []) (w ∷ [])
+pub one-below : (w v : ℕ) → Within v w → Below (v ∷ []) (w ∷ [])
 one-below w v h = below-of (v ∷ []) (w ∷ []) refl (elim [ zero ↦ λ l. h | suc j ↦ λ l. absurd (omega arith) ])
 
 pub word-struck : (w v : ℕ) → Within v w → struck (w ∷ []) (v ∷ []) + length (bits v) ≡ length (bits w)

@@ -9,7 +9,7 @@ use native.Mathlib.Omega.{arith}
 use lib.Dec.{eqb}
 use lib.ListN.{length}
 use borrow.Author.Tests.{eq-eqb}
-use Rattle.model.specs.Domains.{Variable, str, num}
+use Rattle.model.specs.Domains.{str, num}
 use Rattle.model.specs.Constraints.{Problem, Constraint, width, variables, cat, sub, len, regular}
 use Rattle.model.specs.Layout.{Bytes}
 use Rattle.model.specs.Reading.{repeats}
@@ -26,7 +26,9 @@ use Rattle.format.specs.Accepting.{contentOf, problemIn, Usable}
 use Rattle.format.proofs.ContentLaws.{usable-counts, usable-sound, usable-machine}
 use Rattle.steps.specs.declared.Relation.{Relation}
 use Rattle.steps.specs.declared.Relation.the-variants as relation
-use Rattle.steps.specs.Step.{between, Step}
+use Rattle.steps.specs.declared.Struck.{Struck}
+use Rattle.steps.specs.Step.{between, Steps}
+use Rattle.steps.proofs.KindLaws.{between-variables}
 
 differ : {x y : ℕ} → eqb x y ≡ false → y ≢ x
 differ {x} {y} e q = false≢true (sym e ∙ eq-eqb x y (sym q))
@@ -36,12 +38,6 @@ or-false false b e = (refl, e)
 or-false true b e = absurd (false≢true (sym e))
 
 -- ---- a relation between two strings
-
-between-variables : (relation : Relation) (x y : ℕ) → variables (between relation x y) ≡ str x ∷ str y ∷ []
-unfolding between variables
-between-variables relation.Eq x y = refl
-between-variables relation.Neq x y = refl
-between-variables relation.Rev x y = refl
 
 module _ {r : Record} {x y : ℕ} where
   pub is-eq : r ≡ Eq x y → constraintOf r ≡ between relation.Eq x y
@@ -80,8 +76,8 @@ module _ (file : List ℕ) (p : Parts) (r : Record) (T : List ℕ) (b : Bytes fi
     number-at : (n : ℕ) → In (num n) (variables c) → n < P .numbers
     number-at n m = sound .well-formed c there (num n) m
 
-    is-step : {U : List ℕ} {n : ℕ} → Step P c T U n → Step P (constraintOf r) T U n
-    is-step {U} {n} s = subst (λ (d : Constraint). Step P d T U n) (sym is) s
+    is-step : {U : List ℕ} {n : Struck} → Steps P c T U n → Steps P (constraintOf r) T U n
+    is-step {U} {n} s = subst (λ (d : Constraint). Steps P d T U n) (sym is) s
 
     -- ---- two strings
 
@@ -95,7 +91,7 @@ module _ (file : List ℕ) (p : Parts) (r : Record) (T : List ℕ) (b : Bytes fi
       two-inside : (64 * x + 64 ≤ length T) × (64 * y + 64 ≤ length T)
       two-inside = let f = first in let g = second in let l = long in (omega arith, omega arith)
 
-      two-step : {U : List ℕ} {n : ℕ} → ((Q : Problem) → length T ≡ width Q → x < Q .strings → y < Q .strings → y ≢ x → Step Q c T U n) → Step P (constraintOf r) T U n
+      two-step : {U : List ℕ} {n : Struck} → ((Q : Problem) → length T ≡ width Q → x < Q .strings → y < Q .strings → y ≢ x → Steps Q c T U n) → Steps P (constraintOf r) T U n
       two-step s = is-step (s P long first second (differ (sym (two-repeat x y) ∙ ap repeats (sym v) ∙ once)))
 
   -- Eq, Neq and Rev
@@ -103,8 +99,8 @@ module _ (file : List ℕ) (p : Parts) (r : Record) (T : List ℕ) (b : Bytes fi
     pub pair-inside : (64 * x + 64 ≤ length T) × (64 * y + 64 ≤ length T)
     pair-inside = two-inside (between relation x y) is x y (between-variables relation x y)
 
-    pub pair-step : {U : List ℕ} {n : ℕ} → ((Q : Problem) → length T ≡ width Q → x < Q .strings → y < Q .strings → y ≢ x → Step Q (between relation x y) T U n)
-        → Step P (constraintOf r) T U n
+    pub pair-step : {U : List ℕ} {n : Struck} → ((Q : Problem) → length T ≡ width Q → x < Q .strings → y < Q .strings → y ≢ x → Steps Q (between relation x y) T U n)
+        → Steps P (constraintOf r) T U n
     pair-step s = two-step (between relation x y) is x y (between-variables relation x y) s
 
   -- ---- three
@@ -119,8 +115,8 @@ module _ (file : List ℕ) (p : Parts) (r : Record) (T : List ℕ) (b : Bytes fi
       let l = long in
       (omega arith, omega arith, omega arith)
 
-  pub cat-step : (x y z : ℕ) → r ≡ Cat x y z → {U : List ℕ} {n : ℕ}
-      → ((Q : Problem) → length T ≡ width Q → x < Q .strings → y < Q .strings → z < Q .strings → y ≢ x → z ≢ x → z ≢ y → Step Q (cat x y z) T U n) → Step P (constraintOf r) T U n
+  pub cat-step : (x y z : ℕ) → r ≡ Cat x y z → {U : List ℕ} {n : Struck}
+      → ((Q : Problem) → length T ≡ width Q → x < Q .strings → y < Q .strings → z < Q .strings → y ≢ x → z ≢ x → z ≢ y → Steps Q (cat x y z) T U n) → Steps P (constraintOf r) T U n
   unfolding constraintOf variables
   cat-step x y z e s =
       let is = ap constraintOf e in
@@ -147,9 +143,9 @@ module _ (file : List ℕ) (p : Parts) (r : Record) (T : List ℕ) (b : Bytes fi
       let q = strings-are in
       (omega arith, omega arith, omega arith)
 
-  pub sub-step : (x y n : ℕ) → r ≡ Sub x y n → {U : List ℕ} {k : ℕ}
-      → ((Q : Problem) (m : ℕ) → length T ≡ width Q → x < Q .strings → y < Q .strings → y ≢ x → m < Q .numbers → 64 * p .s + n ≡ 64 * Q .strings + m → Step Q (sub x y m) T U k)
-      → Step P (constraintOf r) T U k
+  pub sub-step : (x y n : ℕ) → r ≡ Sub x y n → {U : List ℕ} {k : Struck}
+      → ((Q : Problem) (m : ℕ) → length T ≡ width Q → x < Q .strings → y < Q .strings → y ≢ x → m < Q .numbers → 64 * p .s + n ≡ 64 * Q .strings + m → Steps Q (sub x y m) T U k)
+      → Steps P (constraintOf r) T U k
   unfolding constraintOf variables
   sub-step x y n e s =
       let is = ap constraintOf e in
@@ -169,8 +165,8 @@ module _ (file : List ℕ) (p : Parts) (r : Record) (T : List ℕ) (b : Bytes fi
       let q = strings-are in
       (omega arith, omega arith)
 
-  pub len-step : (x n : ℕ) → r ≡ Len x n → {U : List ℕ} {k : ℕ}
-      → ((Q : Problem) (m : ℕ) → length T ≡ width Q → x < Q .strings → m < Q .numbers → 64 * p .s + n ≡ 64 * Q .strings + m → Step Q (len x m) T U k) → Step P (constraintOf r) T U k
+  pub len-step : (x n : ℕ) → r ≡ Len x n → {U : List ℕ} {k : Struck}
+      → ((Q : Problem) (m : ℕ) → length T ≡ width Q → x < Q .strings → m < Q .numbers → 64 * p .s + n ≡ 64 * Q .strings + m → Steps Q (len x m) T U k) → Steps P (constraintOf r) T U k
   unfolding constraintOf variables
   len-step x n e s =
       let is = ap constraintOf e in
@@ -189,6 +185,6 @@ module _ (file : List ℕ) (p : Parts) (r : Record) (T : List ℕ) (b : Bytes fi
       let q = strings-are in
       (pre .0, pre .1, omega arith, usable-machine file p (pre .0) x i (there (regular x i) is))
 
-  pub regular-step : (x i : ℕ) → r ≡ Regular x i → {U : List ℕ} {n : ℕ} → Step P (regular x i) T U n → Step P (constraintOf r) T U n
+  pub regular-step : (x i : ℕ) → r ≡ Regular x i → {U : List ℕ} {n : Struck} → Steps P (regular x i) T U n → Steps P (constraintOf r) T U n
   unfolding constraintOf
   regular-step x i e s = is-step (regular x i) (ap constraintOf e) s

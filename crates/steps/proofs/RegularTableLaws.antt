@@ -7,8 +7,9 @@ use native.Mathlib.Omega.{arith}
 use lib.Dec.{eqb}
 use lib.ListN.{length, take, drop}
 use lib.Seq.{drop-drop}
+use Rattle.model.specs.Words.{Words}
 use Rattle.model.specs.Domains.{row}
-use Rattle.model.specs.Constraints.{Problem, Automaton, regular, width}
+use Rattle.model.specs.Constraints.{Problem, Automaton, variables, regular, width}
 use Rattle.model.specs.Support.{narrowed, struck}
 use Rattle.model.specs.Reading.{symbolsBelow}
 use Rattle.laws.specs.Inclusion.{Below}
@@ -25,9 +26,9 @@ use Rattle.layout.specs.declared.Parts.{Parts}
 use Rattle.layout.specs.Replied.{partsOf}
 use Rattle.format.specs.Accepting.{problemIn, Usable}
 use Rattle.format.proofs.ContentLaws.{usable-holds, usable-counts}
-use Rattle.steps.specs.Step.{Step}
+use Rattle.steps.specs.Step.{Steps}
 use Rattle.steps.proofs.CountLaws.{below-narrowed}
-use Rattle.steps.proofs.KindLaws.{one-row}
+use Rattle.steps.proofs.KindLaws.{one-steps}
 
 drop-take : (r n : ℕ) (l : List ℕ) → drop r (take n l) ≡ take (n - r) (drop r l)
 drop-take zero n l = let e : n - 0 ≡ n = omega arith in ap (λ (k : ℕ). take k l) (sym e)
@@ -82,13 +83,13 @@ module _ (file : List ℕ) (p : Parts) (T : List ℕ) (x d : ℕ) (pre : Usable 
       pub regular-puts : (64 * x + 64 ≤ length T) × Below new old
       regular-puts = (string-inside, below-narrowed _ _ old new is)
 
-      pub regular-steps : (U : List ℕ) (n : ℕ) → (U ≡ stored T x new) × (n ≡ struck old new) → Step P (regular x d) T U n
-      unfolding partsOf
-      regular-steps U n put =
+      pub regular-steps : (U : List ℕ) (n : ℕ) → Words T → (U ≡ stored T x new) × (n ≡ struck old new) → Steps P (regular x d) T U (record { x = n; y = 0; z = 0 })
+      unfolding partsOf variables
+      regular-steps U n w put =
           let s = usable-counts file p (pre .0) .strings in
           let h = pre .2 in
           let A : Automaton = machine (p .k) (from-byte r) in
           let found = at .found (p .d) (P .automata) (usable-holds file p (pre .0) .machines) ∙ ap (machine (p .k)) lent in
           let ln = lendable-length P T (pre .1) in
           let placed = regular-placed P x d A (sym found) (omega arith) T ln new (is ∙ ap (narrowed (alone 1 0 (A ∷ [])) (regular 0 0)) loaded) in
-          one-row P (regular x d) T U x n old new ln (omega arith) loaded (below-narrowed _ _ old new is) put placed
+          one-steps P (regular x d) T U x n old new w refl ln (omega arith) loaded (below-narrowed _ _ old new is) put placed

@@ -14,7 +14,7 @@ ghost use Rattle.laws.specs.Lent.{lendable};
 ghost use Rattle.rows.specs.Rows.{alone, stored};
 ghost use Rattle.records.specs.Records.{constraintOf};
 ghost use Rattle.format.specs.Accepting.{problemIn, Usable};
-ghost use Rattle.steps.specs.Step.{between, Step};
+ghost use Rattle.steps.specs.Step.{between, Step, Steps};
 
 // How many bits a word lost. Most words lose none, and counting is dear.
 fn fewer(old: u64, new: u64) -> u32
@@ -68,6 +68,14 @@ pub fn trim(table: &mut [u64], x: usize) -> u32
     put(table, x, a, rows::trim(a))
 }
 
+// How many bits each argument of a constraint lost, in the order of its arguments; one that is no variable lost none. A variable that lost none is as it was, so a
+// step need not run again for its sake.
+pub struct Struck {
+    pub x: u32,
+    pub y: u32,
+    pub z: u32,
+}
+
 // The relations between two strings.
 enum Relation {
     Eq,
@@ -87,24 +95,28 @@ fn narrow_pair(relation: Relation, x: [u64; 64], y: [u64; 64]) -> rows::Pair
 }
 
 // Eq(X, Y), Neq(X, Y) or Rev(X, Y).
-fn pair_at(table: &mut [u64], relation: Relation, x: usize, y: usize) -> u32
+fn pair_at(table: &mut [u64], relation: Relation, x: usize, y: usize) -> Struck
     requires { ⌜ (64 * x + 64 ≤ length (now table)) × (64 * y + 64 ≤ length (now table)) ⌝ }
     ensures { λ r. ⌜ ((P : Problem) → length (now (table .entry)) ≡ width P → x < P .strings → y < P .strings → y ≢ x
-        → Step P (between relation x y) (now (table .entry)) (now (table .exit)) r) ⌝ }
+        → Steps P (between relation x y) (now (table .entry)) (now (table .exit)) r) ⌝ }
 {
     let a = rows::load(table, x);
     let b = rows::load(table, y);
     let n = narrow_pair(relation, a, b);
     let p = n.x;
     let q = n.y;
-    put(table, x, a, p) + put(table, y, b, q)
+    Struck {
+        x: put(table, x, a, p),
+        y: put(table, y, b, q),
+        z: 0,
+    }
 }
 
 // Cat(X, Y, Z).
-fn cat_at(table: &mut [u64], x: usize, y: usize, z: usize) -> u32
+fn cat_at(table: &mut [u64], x: usize, y: usize, z: usize) -> Struck
     requires { ⌜ (64 * x + 64 ≤ length (now table)) × (64 * y + 64 ≤ length (now table)) × (64 * z + 64 ≤ length (now table)) ⌝ }
     ensures { λ r. ⌜ ((P : Problem) → length (now (table .entry)) ≡ width P → x < P .strings → y < P .strings → z < P .strings → y ≢ x → z ≢ x → z ≢ y
-        → Step P (cat x y z) (now (table .entry)) (now (table .exit)) r) ⌝ }
+        → Steps P (cat x y z) (now (table .entry)) (now (table .exit)) r) ⌝ }
 {
     let a = rows::load(table, x);
     let b = rows::load(table, y);
@@ -113,14 +125,18 @@ fn cat_at(table: &mut [u64], x: usize, y: usize, z: usize) -> u32
     let p = n.x;
     let q = n.y;
     let o = n.z;
-    put(table, x, a, p) + put(table, y, b, q) + put(table, z, c, o)
+    Struck {
+        x: put(table, x, a, p),
+        y: put(table, y, b, q),
+        z: put(table, z, c, o),
+    }
 }
 
 // Sub(X, Y, N), where the word of N is word i.
-fn sub_at(table: &mut [u64], x: usize, y: usize, i: usize) -> u32
+fn sub_at(table: &mut [u64], x: usize, y: usize, i: usize) -> Struck
     requires { ⌜ (64 * x + 64 ≤ length (now table)) × (64 * y + 64 ≤ length (now table)) × (i < length (now table)) ⌝ }
     ensures { λ r. ⌜ ((P : Problem) (n : ℕ) → length (now (table .entry)) ≡ width P → x < P .strings → y < P .strings → y ≢ x → n < P .numbers
-        → i ≡ 64 * P .strings + n → Step P (sub x y n) (now (table .entry)) (now (table .exit)) r) ⌝ }
+        → i ≡ 64 * P .strings + n → Steps P (sub x y n) (now (table .entry)) (now (table .exit)) r) ⌝ }
 {
     let a = rows::load(table, x);
     let b = rows::load(table, y);
@@ -128,38 +144,50 @@ fn sub_at(table: &mut [u64], x: usize, y: usize, i: usize) -> u32
     let n = sub::narrow(a, b, w);
     let p = n.x;
     let q = n.y;
-    put(table, x, a, p) + put(table, y, b, q) + put_number(table, i, w, n.n)
+    Struck {
+        x: put(table, x, a, p),
+        y: put(table, y, b, q),
+        z: put_number(table, i, w, n.n),
+    }
 }
 
 // Len(X, N), where the word of N is word i.
-fn len_at(table: &mut [u64], x: usize, i: usize) -> u32
+fn len_at(table: &mut [u64], x: usize, i: usize) -> Struck
     requires { ⌜ (64 * x + 64 ≤ length (now table)) × (i < length (now table)) ⌝ }
     ensures { λ r. ⌜ ((P : Problem) (n : ℕ) → length (now (table .entry)) ≡ width P → x < P .strings → n < P .numbers → i ≡ 64 * P .strings + n
-        → Step P (len x n) (now (table .entry)) (now (table .exit)) r) ⌝ }
+        → Steps P (len x n) (now (table .entry)) (now (table .exit)) r) ⌝ }
 {
     let a = rows::load(table, x);
     let w = table[i];
     let n = len::narrow(a, w);
     let p = n.x;
-    put(table, x, a, p) + put_number(table, i, w, n.n)
+    Struck {
+        x: put(table, x, a, p),
+        y: put_number(table, i, w, n.n),
+        z: 0,
+    }
 }
 
 // Regular(X, D), with the automata of the file.
-fn regular_at(file: &[u8], p: layout::Parts, table: &mut [u64], x: usize, d: usize) -> u32
+fn regular_at(file: &[u8], p: layout::Parts, table: &mut [u64], x: usize, d: usize) -> Struck
     requires { ⌜ Usable (now file) p × (lendable (problemIn (now file) p) (now table) ≡ true) × (x < p .s) × (d < p .d) ⌝ }
-    ensures { λ r. ⌜ Step (problemIn (now (file .entry)) p) (regular x d) (now (table .entry)) (now (table .exit)) r ⌝ }
+    ensures { λ r. ⌜ Steps (problemIn (now (file .entry)) p) (regular x d) (now (table .entry)) (now (table .exit)) r ⌝ }
 {
     let automata = p.automata_at;
     let end = p.end;
     let at = automata + automata::start(&file[automata..end], p.k, d);
     let a = rows::load(table, x);
-    put(table, x, a, regular::narrow(&file[at..end], p.k, a))
+    Struck {
+        x: put(table, x, a, regular::narrow(&file[at..end], p.k, a)),
+        y: 0,
+        z: 0,
+    }
 }
 
 // The constraint that a record of the file is.
-pub fn narrow(file: &[u8], p: layout::Parts, r: records::Record, table: &mut [u64]) -> u32
+pub fn narrow(file: &[u8], p: layout::Parts, r: records::Record, table: &mut [u64]) -> Struck
     requires { ⌜ Usable (now file) p × (lendable (problemIn (now file) p) (now table) ≡ true) × In (constraintOf r) (problemIn (now file) p .constraints) ⌝ }
-    ensures { λ n. ⌜ Step (problemIn (now (file .entry)) p) (constraintOf r) (now (table .entry)) (now (table .exit)) n ⌝ }
+    ensures { λ n. ⌜ Steps (problemIn (now (file .entry)) p) (constraintOf r) (now (table .entry)) (now (table .exit)) n ⌝ }
 {
     match r {
         records::Record::Eq(x, y) => pair_at(table, Relation::Eq, x as usize, y as usize),

@@ -13,13 +13,13 @@ use Rattle.room.proofs.branch.Lts as lts
 use Rattle.words.proofs.several.Reads as several-reads
 
 abbrev Inv-loop : tie.InvT-loop
-Inv-loop table n i₀ i = (i ≤ n) × ((j : ℕ) → j < i → Single (word table j))
+Inv-loop table from n i₀ i = (from ≤ i) × (i ≤ n) × ((j : ℕ) → j < i → from ≤ j → Single (word table j))
 
 abbrev μ-loop : tie.MeasureT-loop
-μ-loop table n i₀ i = n - i
+μ-loop table from n i₀ i = n - i
 
 loop-holds : tie.Need-loop-holds Inv-loop μ-loop
-loop-holds c = search needs
+loop-holds c = (search needs, search needs, λ j h l. absurd (omega arith))
 
 mul-several : tie.Need-mul-several Inv-loop μ-loop
 mul-several c = search needs
@@ -32,9 +32,10 @@ several-requires c κs = search needs
 
 returns : tie.Need-returns Inv-loop μ-loop
 returns c = record {
+  least = search needs;
   most = search needs;
   here = λ h. several-true _ (sym (c .before .several .ensures) ∙ c .if1 .taken);
-  before = c .before .before .before .before .loop .inv .1;
+  before = λ j l h. c .before .before .before .before .loop .inv .2 j h l;
 }
 
 add-i : tie.Need-add-i Inv-loop μ-loop
@@ -46,10 +47,15 @@ loop-less c = search needs
 loop-again : tie.Need-loop-again Inv-loop μ-loop
 loop-again c =
     let f = several-false _ (sym (c .before .several .ensures) ∙ c .if1 .left) in
-    (search needs, below-more _ _ (c .before .before .before .before .loop .inv .1) f)
+    (search needs, search needs, below-more _ _ (c .before .before .before .before .loop .inv .2) (λ l. f))
 
 returns-2 : tie.Need-returns-2 Inv-loop μ-loop
-returns-2 c = record { most = search needs; here = λ h. absurd (omega arith); before = λ j h. c .before .loop .inv .1 j (omega arith) }
+returns-2 c = record {
+  least = search needs;
+  most = search needs;
+  here = λ h. absurd (omega arith);
+  before = λ j l h. c .before .loop .inv .2 j (omega arith) l;
+}
 
 pub branch-spec : {M : Type 1} → statement M
 branch-spec =

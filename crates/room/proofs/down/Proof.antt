@@ -1,26 +1,29 @@
+use mathlib.Core.Path.{_∙_}
+use mathlib.Core.Logic.{inr}
 use native.Mathlib.Omega.{arith}
 use lib.ListN.{length-set}
-use Rattle.laws.proofs.WordLaws.{bit-le}
 use Rattle.room.proofs.MoveLaws.{down-right}
 use borrow.Author.Needs.{needs}
 use Rattle.room.proofs.down.Statement.{statement}
 use Rattle.room.proofs.down.Tie as tie
 use Rattle.room.proofs.down.Reads as reads
 use Rattle.room.proofs.down.Lts as lts
-use Rattle.words.proofs.lowest.Reads as lowest-reads
-use Rattle.words.proofs.singleton.Reads as singleton-reads
+use Rattle.room.proofs.choose.Reads as choose-reads
+use Rattle.room.proofs.copy_within.Reads as copy-within-reads
 
-mul-w : tie.Need-mul-w
-mul-w c = search needs
+mul-choose : tie.Need-mul-choose
+mul-choose c = search needs
 
-slice-read-w : tie.Need-slice-read-w
-slice-read-w c = search needs
+add-choose : tie.Need-add-choose
+add-choose c = search needs
 
-lowest-requires : tie.Need-lowest-requires
-lowest-requires c κs = search needs
+choose-requires : tie.Need-choose-requires
+choose-requires c κs = search needs
 
-singleton-requires : tie.Need-singleton-requires
-singleton-requires c κs = search needs
+copy-within-requires : tie.Need-copy-within-requires
+copy-within-requires c κs =
+    let l = c .before .before .before .choose .kept .0 in
+    (omega (arith, l), omega (arith, l), inr (omega arith))
 
 mul-room : tie.Need-mul-room
 mul-room c = search needs
@@ -28,53 +31,28 @@ mul-room c = search needs
 slice-write-room : tie.Need-slice-write-room
 slice-write-room c = search needs
 
-add-room : tie.Need-add-room
-add-room c = search needs
-
-mul-room-2 : tie.Need-mul-room-2
-mul-room-2 c = search needs
-
-slice-write-room-2 : tie.Need-slice-write-room-2
-slice-write-room-2 c = simp length-set (search needs)
-
-sub-room : tie.Need-sub-room
-sub-room c = let l = bit-le _ _ (c .before .lowest .ensures .here) in omega (arith, c .singleton .ensures, l)
-
-mul-room-3 : tie.Need-mul-room-3
-mul-room-3 c = search needs
-
-add-room-2 : tie.Need-add-room-2
-add-room-2 c = search needs
-
-mul-room-4 : tie.Need-mul-room-4
-mul-room-4 c = search needs
-
-slice-write-room-3 : tie.Need-slice-write-room-3
-slice-write-room-3 c = simp length-set (search needs)
-
 same-length : tie.Need-same-length
-same-length c = search needs
+same-length c =
+    let w = c .before .before in
+    let u = c .before .before .before .before .before .before in
+    length-set (w .copy-within .last .0) (u .before .before .before .args .at) (u .choose .result) ∙ w .copy-within .kept .0 ∙ u .choose .kept .0
 
 returns : tie.Need-returns
-returns c = down-right _ _ _ _ _ (search needs) (c .before .lowest .ensures) (c .singleton .ensures)
+returns c =
+    let w = c .before .before in
+    let u = c .before .before .before .before .before .before in
+    let a = u .before .before .before .args in
+    down-right (a .m) (a .at) _ (a .room .now) _ _ (search needs) (search needs) (u .choose .ensures) (w .copy-within .ensures)
 
 pub down-spec : {M : Type 1} → statement M
 down-spec =
     tie.close
     (tie.spec
-    mul-w
-    slice-read-w
-    lowest-requires
-    singleton-requires
+    mul-choose
+    add-choose
+    choose-requires
+    copy-within-requires
     mul-room
     slice-write-room
-    add-room
-    mul-room-2
-    slice-write-room-2
-    sub-room
-    mul-room-3
-    add-room-2
-    mul-room-4
-    slice-write-room-3
     same-length
     returns)

@@ -1,7 +1,6 @@
 use mathlib.Core.Path.{_≡_}
-use Prim.Native.Nat.{ℕ, _≤_}
+use Prim.Native.Nat.{ℕ, _≤_, _<_}
 use native.Mathlib.Omega.{arith}
-use lib.ListN.{length, List·getD-eq-default}
 use Rattle.model.specs.Words.{word}
 use Rattle.room.proofs.MoveLaws.{nothing-step}
 use borrow.Author.Needs.{needs}
@@ -11,13 +10,13 @@ use Rattle.room.proofs.waiting.Reads as reads
 use Rattle.room.proofs.waiting.Lts as lts
 
 abbrev Inv-loop : tie.InvT-loop
-Inv-loop table at₀ at = (at ≤ length table) × ((j : ℕ) → at ≤ j → word table j ≡ 0)
+Inv-loop table end at₀ at = (at ≤ end) × ((j : ℕ) → at ≤ j → j < end → word table j ≡ 0)
 
 abbrev μ-loop : tie.MeasureT-loop
-μ-loop table at₀ at = at
+μ-loop table end at₀ at = at
 
 loop-holds : tie.Need-loop-holds Inv-loop μ-loop
-loop-holds c = (search needs, λ j h. List·getD-eq-default (c .args .table .now) 0 h)
+loop-holds c = (search needs, λ j h l. absurd (omega arith))
 
 sub-if1 : tie.Need-sub-if1 Inv-loop μ-loop
 sub-if1 c = search needs
@@ -40,10 +39,11 @@ loop-less c = search needs
 loop-again : tie.Need-loop-again Inv-loop μ-loop
 loop-again c =
     let l = c .before .before .before .loop in
-    (search needs, nothing-step (c .before .before .before .before .args .table .now) (l .at) (search needs) (c .if1 .left) (l .inv .1))
+    let a = c .before .before .before .before .args in
+    (search needs, nothing-step (a .table .now) (a .end) (l .at) (search needs) (c .if1 .left) (l .inv .1))
 
 returns-2 : tie.Need-returns-2 Inv-loop μ-loop
-returns-2 c = record { most = search needs; here = λ h. absurd (omega arith); after = λ j h. c .before .loop .inv .1 j (omega arith) }
+returns-2 c = record { most = search needs; here = λ h. absurd (omega arith); after = λ j h l. c .before .loop .inv .1 j (omega arith) l }
 
 pub waiting-spec : {M : Type 1} → statement M
 waiting-spec =

@@ -1,5 +1,4 @@
-use native.Mathlib.Omega.{arith}
-use Rattle.steps.proofs.CountLaws.{row-most}
+use Rattle.laws.proofs.TableLaws.{words-of}
 use Rattle.steps.proofs.KindLaws.{front-left, second-left, third-left, cat-rows}
 use borrow.Author.Needs.{needs}
 use Rattle.steps.proofs.cat_at.Statement.{statement}
@@ -33,17 +32,6 @@ put-requires-2 c κs =
           (search needs) (search needs) (search needs) (search needs),
     )
 
-add-result : tie.Need-add-result
-add-result c =
-    let t = c .before .before in
-    let r = t .before .before .before .before in
-    let s = r .before .before .before .before .before in
-    omega (
-      arith,
-      row-most _ _ _ _ _ (s .before .before .before .before .before .load .ensures) (r .put .ensures .1),
-      row-most _ _ _ _ _ (s .before .before .before .load2 .ensures) (t .put2 .ensures .1),
-    )
-
 put-requires-3 : tie.Need-put-requires-3
 put-requires-3 c κs =
     let s = c .before .before .before .before .before .before .before .before .before .before .before .before in
@@ -54,23 +42,15 @@ put-requires-3 c κs =
           (search needs) (search needs) (search needs) (search needs),
     )
 
-add-result-2 : tie.Need-add-result-2
-add-result-2 c =
-    let u = c .before .before in
-    let t = u .before .before .before .before in
-    let r = t .before .before .before .before in
-    let s = r .before .before .before .before .before in
-    let a = row-most _ _ _ _ _ (s .before .before .before .before .before .load .ensures) (r .put .ensures .1) in
-    let b = row-most _ _ _ _ _ (s .before .before .before .load2 .ensures) (t .put2 .ensures .1) in
-    omega (arith, a, b, row-most _ _ _ _ _ (s .before .load3 .ensures) (u .put3 .ensures .1))
-
 same-length : tie.Need-same-length
 same-length c = search needs
 
 returns : tie.Need-returns
 returns c =
     let s = c .before .before .before .before .before .before .before .before .before .before .before .before .before .before .before in
-    λ P ln hx hy hz yx zx zy. cat-rows P _ _ _ _ _ _ _ _ _ _ _ _ _ _ _ _ ln hx hy hz yx zx zy
+    let known = s .before .before .before .before .before .before .before in
+    let words = words-of (known .before .args .table .now) (λ i. known .slice-known .given i .fits) in
+    λ P ln hx hy hz yx zx zy. cat-rows P _ _ _ _ _ _ _ _ _ _ _ _ _ _ _ _ words ln hx hy hz yx zx zy
     (s .before .before .before .before .before .load .ensures) (s .before .before .before .load2 .ensures) (s .before .load3 .ensures) (s .narrow .ensures)
     (c .before .before .before .before .before .before .before .before .before .before .put .ensures)
     (c .before .before .before .before .before .before .put2 .ensures) (c .before .before .put3 .ensures) (search needs) (search needs)
@@ -85,8 +65,6 @@ cat-at-spec =
     narrow-requires
     put-requires
     put-requires-2
-    add-result
     put-requires-3
-    add-result-2
     same-length
     returns)

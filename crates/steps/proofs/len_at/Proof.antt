@@ -1,6 +1,5 @@
-use native.Mathlib.Omega.{arith}
 use mathlib.Core.Path.{refl}
-use Rattle.steps.proofs.CountLaws.{row-most, number-most}
+use Rattle.laws.proofs.TableLaws.{words-of}
 use Rattle.steps.proofs.KindLaws.{front-left, back-left, len-rows}
 use borrow.Author.Needs.{needs}
 use Rattle.steps.proofs.len_at.Statement.{statement}
@@ -32,20 +31,15 @@ put-number-requires c κs =
     let s = c .before .before .before .before .before .before in
     (search needs, back-left _ _ (s .before .before .load .result) _ (s .narrow .result .x) _ (s .narrow .ensures) (search needs) (search needs) .within 0)
 
-add-result : tie.Need-add-result
-add-result c =
-    let t = c .before .before in
-    let r = t .before .before .before .before in
-    let s = r .before .before .before in
-    omega (arith, row-most _ _ _ _ _ (s .before .before .load .ensures) (r .put .ensures .1), number-most _ _ _ (t .put-number .ensures .1))
-
 same-length : tie.Need-same-length
 same-length c = search needs
 
 returns : tie.Need-returns
 returns c =
     let s = c .before .before .before .before .before .before .before .before .before in
-    λ P v ln hx hv ei. len-rows P _ _ _ _ _ v _ _ _ _ _ _ ln hx hv ei (s .before .before .load .ensures) refl (s .narrow .ensures)
+    let known = s .before .before .before .before in
+    let words = words-of (known .before .args .table .now) (λ i. known .slice-known .given i .fits) in
+    λ P v ln hx hv ei. len-rows P _ _ _ _ _ v _ _ _ _ _ _ words ln hx hv ei (s .before .before .load .ensures) refl (s .narrow .ensures)
     (c .before .before .before .before .before .before .put .ensures) (c .before .before .put-number .ensures) (search needs)
 
 pub len-at-spec : {M : Type 1} → statement M
@@ -58,6 +52,5 @@ len-at-spec =
     narrow-requires
     put-requires
     put-number-requires
-    add-result
     same-length
     returns)

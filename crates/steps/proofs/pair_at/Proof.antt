@@ -1,6 +1,5 @@
-use native.Mathlib.Omega.{arith}
-use Rattle.steps.proofs.CountLaws.{row-most}
-use Rattle.steps.proofs.KindLaws.{front-left, back-left, two-rows, between-placed}
+use Rattle.laws.proofs.TableLaws.{words-of}
+use Rattle.steps.proofs.KindLaws.{front-left, back-left, two-rows, between-variables, between-placed}
 use borrow.Author.Needs.{needs}
 use Rattle.steps.proofs.pair_at.Statement.{statement}
 use Rattle.steps.proofs.pair_at.Tie as tie
@@ -27,24 +26,15 @@ put-requires-2 c κs =
     let s = c .before .before .before .before .before .before .before in
     (search needs, back-left _ _ (s .before .before .before .load .result) _ (s .narrow-pair .result .x) _ (s .narrow-pair .ensures) (search needs) (search needs))
 
-add-result : tie.Need-add-result
-add-result c =
-    let t = c .before .before in
-    let r = t .before .before .before .before in
-    let s = r .before .before .before .before in
-    omega (
-      arith,
-      row-most _ _ _ _ _ (s .before .before .before .load .ensures) (r .put .ensures .1),
-      row-most _ _ _ _ _ (s .before .load2 .ensures) (t .put2 .ensures .1),
-    )
-
 same-length : tie.Need-same-length
 same-length c = search needs
 
 returns : tie.Need-returns
 returns c =
     let s = c .before .before .before .before .before .before .before .before .before .before in
-    λ P ln hx hy ne. two-rows P _ _ _ _ _ _ _ _ _ _ _ _ _ ln hx hy ne
+    let known = s .before .before .before .before .before in
+    let words = words-of (known .before .args .table .now) (λ i. known .slice-known .given i .fits) in
+    λ P ln hx hy ne. two-rows P _ _ _ _ _ _ _ _ _ _ _ _ _ words (between-variables _ _ _) ln hx hy ne
     (s .before .before .before .load .ensures) (s .before .load2 .ensures) (s .narrow-pair .ensures)
     (c .before .before .before .before .before .before .put .ensures) (c .before .before .put2 .ensures) (search needs) (between-placed _ P _ _ ne hx hy _ ln)
 
@@ -57,6 +47,5 @@ pair-at-spec =
     narrow-pair-requires
     put-requires
     put-requires-2
-    add-result
     same-length
     returns)

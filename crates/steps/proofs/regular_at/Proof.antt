@@ -1,3 +1,4 @@
+use Rattle.laws.proofs.TableLaws.{words-of}
 use Rattle.steps.proofs.RegularTableLaws.{automaton-named, string-inside, machine-there, regular-puts, regular-steps}
 use borrow.Author.Needs.{needs}
 use Rattle.steps.proofs.regular_at.Statement.{statement}
@@ -55,7 +56,9 @@ returns : tie.Need-returns
 returns c =
     let loaded = c .before .before .before .before .before .before in
     let found = loaded .before .before in
-    regular-steps _ _ _ _ _ (found .before .before .before .before .pre) _ (found .start .ensures) _ (loaded .load .ensures) _ (c .before .before .before .narrow .ensures) _ _ (c .before .before .put .ensures)
+    let known = found .before .before in
+    regular-steps _ _ _ _ _ (known .before .before .pre) _ (found .start .ensures) _ (loaded .load .ensures) _ (c .before .before .before .narrow .ensures) _ _
+    (words-of (known .before .before .args .table .now) (λ i. known .slice-known .given i .fits)) (c .before .before .put .ensures)
 
 pub regular-at-spec : {M : Type 1} → statement M
 regular-at-spec =

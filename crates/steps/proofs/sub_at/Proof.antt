@@ -1,6 +1,5 @@
-use native.Mathlib.Omega.{arith}
 use mathlib.Core.Path.{refl}
-use Rattle.steps.proofs.CountLaws.{row-most, number-most}
+use Rattle.laws.proofs.TableLaws.{words-of}
 use Rattle.steps.proofs.KindLaws.{front-left, second-left, third-left, sub-rows}
 use borrow.Author.Needs.{needs}
 use Rattle.steps.proofs.sub_at.Statement.{statement}
@@ -38,17 +37,6 @@ put-requires-2 c κs =
           (search needs) (search needs) (search needs) (search needs),
     )
 
-add-result : tie.Need-add-result
-add-result c =
-    let t = c .before .before in
-    let r = t .before .before .before .before in
-    let s = r .before .before .before .before in
-    omega (
-      arith,
-      row-most _ _ _ _ _ (s .before .before .before .before .load .ensures) (r .put .ensures .1),
-      row-most _ _ _ _ _ (s .before .before .load2 .ensures) (t .put2 .ensures .1),
-    )
-
 put-number-requires : tie.Need-put-number-requires
 put-number-requires c κs =
     let s = c .before .before .before .before .before .before .before .before .before .before .before in
@@ -59,23 +47,15 @@ put-number-requires c κs =
           (search needs) (search needs) (search needs) (search needs) .within 0,
     )
 
-add-result-2 : tie.Need-add-result-2
-add-result-2 c =
-    let u = c .before .before in
-    let t = u .before .before .before .before in
-    let r = t .before .before .before .before in
-    let s = r .before .before .before .before in
-    let a = row-most _ _ _ _ _ (s .before .before .before .before .load .ensures) (r .put .ensures .1) in
-    let b = row-most _ _ _ _ _ (s .before .before .load2 .ensures) (t .put2 .ensures .1) in
-    omega (arith, a, b, number-most _ _ _ (u .put-number .ensures .1))
-
 same-length : tie.Need-same-length
 same-length c = search needs
 
 returns : tie.Need-returns
 returns c =
     let s = c .before .before .before .before .before .before .before .before .before .before .before .before .before .before in
-    λ P v ln hx hy ne hv ei. sub-rows P _ _ _ _ _ _ _ v _ _ _ _ _ _ _ _ _ ln hx hy ne hv ei
+    let known = s .before .before .before .before .before .before in
+    let words = words-of (known .before .args .table .now) (λ i. known .slice-known .given i .fits) in
+    λ P v ln hx hy ne hv ei. sub-rows P _ _ _ _ _ _ _ v _ _ _ _ _ _ _ _ _ words ln hx hy ne hv ei
     (s .before .before .before .before .load .ensures) (s .before .before .load2 .ensures) refl (s .narrow .ensures)
     (c .before .before .before .before .before .before .before .before .before .before .put .ensures)
     (c .before .before .before .before .before .before .put2 .ensures) (c .before .before .put-number .ensures) (search needs) (search needs)
@@ -91,8 +71,6 @@ sub-at-spec =
     narrow-requires
     put-requires
     put-requires-2
-    add-result
     put-number-requires
-    add-result-2
     same-length
     returns)

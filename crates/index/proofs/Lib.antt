@@ -1,0 +1,5 @@
+-- The laws of `index`.
+pub mod JoiningLaws
+pub mod KindLaws
+pub mod WakingLaws
+pub mod NotingLaws

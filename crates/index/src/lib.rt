@@ -1,0 +1,149 @@
+// Which constraints of a file name a variable: a word for each variable, strings then numbers, in which bit j stands for constraint j.
+//
+// Assumes nothing. `requires` asks what refusals 1 to 8 leave, and sizes.
+ghost use mathlib.Core.Path.{_≡_};
+ghost use mathlib.Core.List.{[], _∷_, map};
+ghost use Prim.Native.Nat.{_+_, _*_, _<_, _≤_};
+ghost use lib.Bits.{bitOr};
+ghost use lib.ListN.{length};
+ghost use Rattle.model.specs.Words.{word, union};
+ghost use Rattle.model.specs.Domains.{str, owner};
+ghost use Rattle.model.specs.Constraints.{variables};
+ghost use Rattle.laws.specs.Inclusion.{In};
+ghost use Rattle.records.specs.Records.{constraintOf};
+ghost use Rattle.format.specs.Accepting.{problemIn, Usable};
+ghost use Rattle.index.specs.Index.{position, Index};
+ghost use Rattle.index.specs.Joining.{positions, Fits, Joined};
+ghost use Rattle.index.specs.Waking.{changed, ifStruck};
+
+// The index with the bits of b joined into word i.
+fn with(ix: [u64; 32], i: usize, b: u64) -> [u64; 32]
+    requires { ⌜ i < 32 ⌝ }
+    ensures { λ jx. ⌜ Joined (i ∷ []) b ix jx ⌝ }
+{
+    let mut jx = ix;
+    jx[i] = jx[i] | b;
+    jx
+}
+
+// The same for two words.
+fn with_two(ix: [u64; 32], i: usize, j: usize, b: u64) -> [u64; 32]
+    requires { ⌜ (i < 32) × (j < 32) ⌝ }
+    ensures { λ jx. ⌜ Joined (i ∷ j ∷ []) b ix jx ⌝ }
+{
+    with(with(ix, i, b), j, b)
+}
+
+// The same for three.
+fn with_three(ix: [u64; 32], i: usize, j: usize, k: usize, b: u64) -> [u64; 32]
+    requires { ⌜ (i < 32) × (j < 32) × (k < 32) ⌝ }
+    ensures { λ jx. ⌜ Joined (i ∷ j ∷ k ∷ []) b ix jx ⌝ }
+{
+    with(with_two(ix, i, j, b), k, b)
+}
+
+// The index with the bits of b joined into the word of each variable that r names.
+fn noted(ix: [u64; 32], r: records::Record, s: usize, b: u64) -> [u64; 32]
+    requires { ⌜ (s ≤ 16) × Fits s r ⌝ }
+    ensures { λ jx. ⌜ Joined (positions s r) b ix jx ⌝ }
+{
+    match r {
+        records::Record::Eq(x, y) => with_two(ix, x as usize, y as usize, b),
+        records::Record::Neq(x, y) => with_two(ix, x as usize, y as usize, b),
+        records::Record::Rev(x, y) => with_two(ix, x as usize, y as usize, b),
+        records::Record::Cat(x, y, z) => with_three(ix, x as usize, y as usize, z as usize, b),
+        records::Record::Sub(x, y, n) => with_three(ix, x as usize, y as usize, s + n as usize, b),
+        records::Record::Len(x, n) => with_two(ix, x as usize, s + n as usize, b),
+        records::Record::Regular(x, _) => with(ix, x as usize, b),
+    }
+}
+
+// The index of a file.
+pub fn of_file(file: &[u8], p: layout::Parts) -> [u64; 32]
+    requires { ⌜ Usable (now file) p ⌝ }
+    ensures { λ ix. ⌜ Index (problemIn (now (file .entry)) p) ix ⌝ }
+{
+    let start = p.constraints_at;
+    let end = p.automata_at;
+    let mut ix: [u64; 32] = [0; 32];
+    for j in 0..p.c {
+        let records::Decoded::Constraint(r) = records::at(&file[start..end], j, p.s, p.t, p.d)
+        else {
+            return ix;
+        };
+        let more = noted(ix, r, p.s, words::singleton(j));
+        ix = more;
+    }
+    ix
+}
+
+// The constraints that name the variable of word `at`, in a table of s strings.
+pub fn touching(ix: &[u64], s: usize, at: usize) -> u64
+    requires { ⌜ (length (now ix) ≡ 32) × (s ≤ 16) × (at < 64 * s + 16) ⌝ }
+    ensures { λ r. ⌜ r ≡ word (now (ix .entry)) (position s (owner s at)) ⌝ }
+{
+    if at < 64 * s {
+        return ix[at / 64];
+    }
+    ix[s + (at - 64 * s)]
+}
+
+// The bits of word i, whose variable lost n bits: none where it lost none.
+fn if_struck(ix: &[u64], i: usize, n: u32) -> u64
+    requires { ⌜ (length (now ix) ≡ 32) × (i < 32) ⌝ }
+    ensures { λ w. ⌜ w ≡ ifStruck n (word (now (ix .entry)) i) ⌝ }
+{
+    if n == 0 {
+        return 0;
+    }
+    ix[i]
+}
+
+// The same for the words of the first two arguments of a step.
+fn two(ix: &[u64], i: usize, j: usize, n: steps::Struck) -> u64
+    requires { ⌜ (length (now ix) ≡ 32) × (i < 32) × (j < 32) ⌝ }
+    ensures { λ w. ⌜ w ≡ bitOr (ifStruck (n .x) (word (now (ix .entry)) i)) (ifStruck (n .y) (word (now (ix .entry)) j)) ⌝ }
+{
+    if_struck(ix, i, n.x) | if_struck(ix, j, n.y)
+}
+
+// The same for those of all three.
+fn three(ix: &[u64], i: usize, j: usize, k: usize, n: steps::Struck) -> u64
+    requires { ⌜ (length (now ix) ≡ 32) × (i < 32) × (j < 32) × (k < 32) ⌝ }
+    ensures { λ w. ⌜ w ≡ bitOr (ifStruck (n .x) (word (now (ix .entry)) i))
+        (bitOr (ifStruck (n .y) (word (now (ix .entry)) j)) (ifStruck (n .z) (word (now (ix .entry)) k))) ⌝ }
+{
+    if_struck(ix, i, n.x) | (if_struck(ix, j, n.y) | if_struck(ix, k, n.z))
+}
+
+// The constraints that name a variable of r that lost bits, r among them where it is one of the file's and lost any. The others have every word of theirs as it
+// was, so the step of r gives them nothing to do.
+pub fn waking(ix: &[u64], s: usize, r: records::Record, n: steps::Struck) -> u64
+    requires { ⌜ (length (now ix) ≡ 32) × (s ≤ 16) × Fits s r ⌝ }
+    ensures { λ w. ⌜ w ≡ union (map (λ v. word (now (ix .entry)) (position s v)) (changed (variables (constraintOf r)) (n .x ∷ n .y ∷ n .z ∷ []))) ⌝ }
+{
+    match r {
+        records::Record::Eq(x, y) => two(ix, x as usize, y as usize, n),
+        records::Record::Neq(x, y) => two(ix, x as usize, y as usize, n),
+        records::Record::Rev(x, y) => two(ix, x as usize, y as usize, n),
+        records::Record::Cat(x, y, z) => three(ix, x as usize, y as usize, z as usize, n),
+        records::Record::Sub(x, y, m) => three(ix, x as usize, y as usize, s + m as usize, n),
+        records::Record::Len(x, m) => two(ix, x as usize, s + m as usize, n),
+        records::Record::Regular(x, _) => if_struck(ix, x as usize, n.x),
+    }
+}
+
+// The first string that r names: every kind's first argument.
+pub fn first(r: records::Record) -> usize
+    ensures { λ x. ⌜ In (str x) (variables (constraintOf r)) ⌝ }
+{
+    match r {
+        records::Record::Eq(x, _) => x as usize,
+        records::Record::Neq(x, _) => x as usize,
+        records::Record::Rev(x, _) => x as usize,
+        records::Record::Cat(x, _, _) => x as usize,
+        records::Record::Sub(x, _, _) => x as usize,
+        records::Record::Len(x, _) => x as usize,
+        records::Record::Regular(x, _) => x as usize,
+    }
+}

@@ -1,0 +1,2 @@
+-- The definitions that the contracts of `waiting` cite.
+pub mod Turns
