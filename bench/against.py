@@ -6,16 +6,14 @@ import sys
 import tempfile
 from pathlib import Path
 
+from counted import ROOT, archive
 from problems import PROBLEMS
 
-ROOT = Path(__file__).resolve().parent.parent
 CARGO = ROOT / "target" / "cargo"
 
 
 def main():
-    if not (ROOT / "target" / "staticlib" / "libcobleskeg_c.a").is_file():
-        print("bench: target/staticlib/libcobleskeg_c.a is not there: run `rt staticlib cobleskeg_c` first")
-        return 1
+    archive()
     command = ["cargo", "build", "--release", "--offline", "--quiet", "--bin", "speed", "--target-dir", str(CARGO)]
     subprocess.run(command, cwd=ROOT / "compare", check=True)
     print("| problem | answer | library, microseconds a search | second solver | second solver / library |")
@@ -27,7 +25,6 @@ def main():
             done = subprocess.run([str(CARGO / "release" / "speed"), str(path)], capture_output=True, check=True, text=True)
             answer, ours, theirs = done.stdout.split("\t")
             print(f"| {what} | {answer} | {float(ours):,.0f} | {float(theirs):,.0f} | {float(theirs) / float(ours):.2f} |", flush=True)
-    return 0
 
 
 if __name__ == "__main__":

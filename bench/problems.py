@@ -1,6 +1,8 @@
 # Problem files in the format of document 01, from descriptions that can be read: bench/search.py searches them. Deterministic.
 #     python3 bench/problems.py FOLDER      writes each problem to FOLDER/NAME.problem
+import random
 import sys
+from itertools import combinations, permutations
 from pathlib import Path
 
 sys.path.insert(0, str(Path(__file__).resolve().parent.parent / "tests"))
@@ -214,6 +216,60 @@ def deepest():
     return p
 
 
+def grown(draw, words, kinds):
+    """Adds a word for each kind of constraint, made from words that are there so that the constraint holds: answers the constraints."""
+    held = []
+    for kind in kinds:
+        new = len(words)
+        x, y = draw.sample([i for i, word in enumerate(words) if len(word) <= 5], 2)
+        first = draw.randrange(len(words[x]))
+        last = draw.randint(first, len(words[x]) - 1)
+        word, arguments = {
+            "eq": (words[x], (x, new)),
+            "rev": (words[x][::-1], (x, new)),
+            "cat": (words[x] + words[y], (x, y, new)),
+            "sub": (words[x][first : last + 1], (x, new, first)),
+        }[kind]
+        words.append(word)
+        held.append((kind, *arguments))
+    return held
+
+
+def end(moves, alphabet, word):
+    """The state in which an automaton ends."""
+    state = 0
+    for symbol in word:
+        state = moves[len(alphabet) * state + alphabet.index(symbol)]
+    return state
+
+
+def woven(seed):
+    """16 strings of 1 to 10 symbols out of 6, 10 numbers, three automata and 54 constraints of every kind, at random. So that the root is not dead, they are
+    made to hold of words that the file does not tell: six random ones, and ten that are joined, turned round, cut or copied from these; number i is i + 1."""
+    draw = random.Random(seed)
+    p = Problem(LETTERS[:6])
+    words = ["".join(draw.choices(p.alphabet, k=draw.randint(2, 5))) for _ in range(6)]
+    held = grown(draw, words, "cat cat rev cat sub eq cat sub rev cat".split())
+    ends = []
+    for states in (5, 6, 8):
+        moves = draw.choices(range(states), k=states * len(p.alphabet))
+        accepting = draw.sample(range(states), 2)
+        r = p.machine(states, moves, accepting)
+        ends += [("regular", x, r) for x, word in enumerate(words) if end(moves, p.alphabet, word) in accepting]
+    parts = [("sub", x, y, words[x].find(words[y])) for x, y in permutations(range(16), 2) if words[y] in words[x]]
+    different = [("neq", x, y) for x, y in combinations(range(16), 2) if words[x] != words[y]]
+    lengths = [("len", x, len(word) - 1) for x, word in enumerate(words)]
+    for count, those in ((18, different), (6, parts), (8, lengths), (12, ends)):
+        held += draw.sample([one for one in those if one not in held], count)  # raises ValueError for a seed that has fewer
+    for _ in words:
+        p.string(range(1, 11))
+    for _ in range(10):
+        p.number(range(1, 11))
+    for kind, *arguments in draw.sample(held, len(held)):
+        getattr(p, kind)(*arguments)
+    return p
+
+
 def rules():
     """16 strings of up to 63 symbols out of 64, each held to four of 8 automata of 32 states: bench/stack.py's, as Regular takes most of the stack."""
     p = Problem([chr(i) for i in range(64)])
@@ -235,6 +291,7 @@ PROBLEMS = [
     ("codes", "all words of three bits in a string of 9", codes(9)),
     ("largest", "every count at its limit", largest()),
     ("deepest", "16 strings of 63 symbols", deepest()),
+    ("woven", "16 short strings, 54 random constraints", woven(6)),  # the first seed from 0 on whose search spends the program's budget
 ]
 
 if __name__ == "__main__":

@@ -9,6 +9,9 @@ use crate::trees::{self, Known};
 use crate::{generate, hard, late, noise, oversized, templates};
 use std::sync::OnceLock;
 
+/// The sort of a known tree changes after so many cases: of those that come up in any run the first is deep, the second bushy, and so on.
+const TREE_EVERY: u64 = 2000;
+
 /// The kind of a case, its file, what is known of its tree, how much of it is called, and the random words for that.
 pub struct Case {
     pub kind: Kind,
@@ -23,7 +26,7 @@ impl Case {
         let mut random = Random::new(seed, index);
         let kind = Kind::of(index, &mut random);
         let (file, known) = match kind {
-            Kind::Tree => with_tree(trees::known(&mut random)),
+            Kind::Tree => with_tree(trees::known(&mut random, index / TREE_EVERY)),
             Kind::Full => with_tree(trees::full(&mut random, index / COSTLY_EVERY)),
             _ => (file(kind, &mut random), None),
         };

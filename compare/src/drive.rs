@@ -198,18 +198,21 @@ impl Drive<'_> {
         *random.pick(&[0, 0, 1, 7, 100])
     }
 
-    /// A tree whose count and solution a formula gives: the second solver is held to it once, and the library with budgets at the count, beside it and
-    /// elsewhere.
+    /// A tree whose count and solution a formula gives: the second solver is held to it once, and the library with budgets at the count where the search ends,
+    /// beside it and elsewhere; where the tree has nodes behind its solution, also at the count of all.
     fn known_tree(&mut self, known: &Known, words: usize) -> Compared<Option<Outcome>> {
         let answer = known.table();
         let (mut room, mut table) = (vec![1; 3 * words], vec![0; words]);
-        let theirs = second::search(self.calls.file, known.nodes, &mut room, &mut table);
-        if theirs != Ok(known.outcome(known.nodes)) || answer.as_ref().is_some_and(|answer| *answer != table) {
-            let formula = format!("{:?}, {:?}", known.outcome(known.nodes), known.solution);
+        let end = known.end();
+        let theirs = second::search(self.calls.file, end, &mut room, &mut table);
+        if theirs != Ok(known.outcome(end)) || answer.as_ref().is_some_and(|answer| *answer != table) {
+            let formula = format!("{:?}, {:?}", known.outcome(end), known.solution);
             return Err(Disagreement { call: "the tree by its formula".into(), ours: formula, theirs: format!("{theirs:?}"), word: None });
         }
         let elsewhere = self.calls.random.between(3001, 65_536) as u32;
-        for budget in [known.nodes, known.nodes - 1, known.nodes + 1, elsewhere] {
+        self.calls.tally.tree(known.shape);
+        let behind = (known.nodes > end + 1).then_some(known.nodes);
+        for budget in [end, end - 1, end + 1, elsewhere].into_iter().chain(behind) {
             let room = 3 * words + self.beyond();
             self.calls.search_as(budget, room, words, |room, table| {
                 room[..3 * words].fill(0);

@@ -2,7 +2,8 @@
 
 use crate::random::Random;
 
-/// One case in so many is a tree of about as many nodes as the program's budget, and one in twice as many a search that spends that budget.
+/// One case in so many is a tree of about as many nodes as the program's budget, and one in twice as many a search that spends that budget. Two in so many are
+/// smaller known trees whatever is picked, so that also a short run has a deep one and a bushy one.
 pub const COSTLY_EVERY: u64 = 5000;
 
 #[derive(Clone, Copy, PartialEq, Debug)]
@@ -92,6 +93,7 @@ impl Kind {
     pub fn of(index: u64, random: &mut Random) -> Kind {
         match (index % COSTLY_EVERY, index / COSTLY_EVERY % 2) {
             (1000, _) => Kind::Full,
+            (2000 | 4000, _) => Kind::Tree,
             (3000, 0) => Kind::Endless,
             _ => Kind::pick(random),
         }

@@ -26,6 +26,7 @@ mod hard;
 mod kind;
 mod late;
 mod lent;
+mod locks;
 mod marked;
 mod measure;
 mod noise;

@@ -57,7 +57,7 @@ pub fn printed(program: &Path, input: &[u8], cuts: &[usize]) -> io::Result<Strin
 
 /// The lines of document 01 for a problem whose tree is known.
 pub fn known_lines(known: &Known) -> String {
-    listed(known.outcome(BUDGET), || solution::lines(known.solution.as_deref().unwrap_or_default(), &[]))
+    listed(known.outcome(BUDGET), || solution::lines(known.solution.as_ref().map_or(&[], |solution| &solution.strings[..]), &[]))
 }
 
 fn listed(outcome: Outcome, solution: impl Fn() -> String) -> String {
@@ -91,6 +91,7 @@ pub fn lines(input: &[u8]) -> String {
 mod tests {
     use super::*;
     use crate::draft::{any, just, Draft};
+    use crate::trees::Solution;
 
     #[test]
     fn the_lines_of_document_01() {
@@ -109,10 +110,10 @@ mod tests {
 
     #[test]
     fn the_lines_of_a_known_tree() {
-        let key = Some(vec![vec![2, 2, 0]]);
-        assert_eq!(known_lines(&Known { nodes: 9, solution: key.clone() }), "found 9\ns0 3 2 2 0\n");
-        assert_eq!(known_lines(&Known { nodes: BUDGET + 1, solution: key }), "spent 65536\n");
-        assert_eq!(known_lines(&Known { nodes: BUDGET, solution: None }), "none 65536\n");
+        let solved = |node| Known { nodes: BUDGET + 2, solution: Some(Solution { node, strings: vec![vec![2, 2, 0]] }), ..Known::default() };
+        assert_eq!(known_lines(&solved(9)), "found 9\ns0 3 2 2 0\n");
+        assert_eq!(known_lines(&solved(BUDGET + 1)), "spent 65536\n");
+        assert_eq!(known_lines(&Known { nodes: BUDGET, ..Known::default() }), "none 65536\n");
     }
 
     #[test]

@@ -1,6 +1,7 @@
 //! What has been compared, and whether anything never came up.
 
 use crate::kind::Kind;
+use crate::trees::{Shape, BUSHY, DEEP, FAR};
 use second::file::LARGEST_FILE;
 use second::Outcome;
 use std::fmt::Display;
@@ -19,6 +20,9 @@ pub enum Event {
     ExactBudget,
     LongList,
     WideRoom,
+    DeepTree,
+    BushyTree,
+    FarBack,
     OversizedLayout,
     OversizedAutomata,
     Pieces,
@@ -26,7 +30,7 @@ pub enum Event {
 }
 
 /// By the event; the counts behind "beyond" are what the kinds of cases without long chains and known trees reach.
-const EVENTS: [&str; 11] = [
+const EVENTS: [&str; 14] = [
     "rounds beyond 34",
     "found beyond node 549",
     "none beyond 2047 nodes",
@@ -34,6 +38,9 @@ const EVENTS: [&str; 11] = [
     "budgets at a count beyond 3000 or one beside it",
     "lists beyond 400 calls",
     "rooms with 1000 words or more beyond",
+    "trees of 48 levels or more",
+    "trees with 48 children or more at a node",
+    "trees searched back over two strings or more at once",
     "files beyond the largest refused by 4",
     "files beyond the largest refused by 5",
     "inputs of the program in pieces",
@@ -105,6 +112,15 @@ impl Tally {
         }
         if budget < u32::MAX {
             self.greatest(2, budget.into());
+        }
+    }
+
+    /// A known tree of this shape, of which all nodes up to its first solved one are visited.
+    pub fn tree(&mut self, shape: Shape) {
+        for (far, event) in [(shape.levels >= DEEP, Event::DeepTree), (shape.widest >= BUSHY, Event::BushyTree), (shape.back >= FAR, Event::FarBack)] {
+            if far {
+                self.came_up(event);
+            }
         }
     }
 
@@ -223,6 +239,16 @@ mod tests {
         let counted = |event: Event| tally.events[event as usize];
         assert_eq!([Event::LateFound, Event::LateNone, Event::WideBudget, Event::ExactBudget].map(counted), [1, 1, 2, 1]);
         assert_eq!(tally.maxima[..3], [65_536, 2_048, 65_536]);
+    }
+
+    #[test]
+    fn trees_are_counted_by_their_shape() {
+        let mut tally = Tally::default();
+        tally.tree(Shape { levels: DEEP, widest: BUSHY - 1, back: FAR });
+        tally.tree(Shape { levels: DEEP - 1, widest: BUSHY, back: FAR - 1 });
+        tally.tree(Shape { levels: DEEP, ..Shape::default() });
+        assert_eq!([Event::DeepTree, Event::BushyTree, Event::FarBack].map(|event| tally.events[event as usize]), [2, 1, 1]);
+        assert!(Tally::default().missing(false).contains(&"far out: trees of 48 levels or more".to_string()));
     }
 
     #[test]

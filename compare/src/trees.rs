@@ -1,196 +1,282 @@
-//! Problems whose search tree is known: how many nodes it has follows from a formula, and where its one solution lies, if it has one.
-//!
-//! A lock is a string of n open places and a last one, held to two automata. The first wants the last symbol as odd or even as the sum of those before it, the
-//! second wants the opposite; while a place is open each of them has a way, so nothing is struck, and when all n are decided the two contradict. So with a_i
-//! symbols at place i the tree has 1 + a_1 + a_1 a_2 + ... + a_1 a_2 ... a_n nodes. In a lock with a key the second automaton agrees with the first where every
-//! symbol before the last is the greatest: of all strings the last, and its node is the last of the tree.
+//! Problems whose search tree is known: single locks and rows of them (see `locks`), deep ones and bushy ones, up to the program's budget and beyond it.
 
-use crate::draft::{any, below, just, machine, Draft, NOTHING};
+use crate::draft::Draft;
+use crate::locks::{self, Key, Lock, Row};
 use crate::random::Random;
 use second::Outcome;
+use std::ops::RangeInclusive;
 
 /// What the search of such a problem comes to.
-#[derive(Clone, Debug, PartialEq)]
+#[derive(Clone, Debug, Default, PartialEq)]
 pub struct Known {
+    /// The nodes of the whole tree, any behind the first solved one included.
     pub nodes: u32,
-    /// The strings of the last node, if it is solved.
-    pub solution: Option<Vec<Vec<u8>>>,
+    pub solution: Option<Solution>,
+    pub shape: Shape,
+}
+
+/// The first solved node, and the strings there.
+#[derive(Clone, Debug, PartialEq)]
+pub struct Solution {
+    pub node: u32,
+    pub strings: Vec<Vec<u8>>,
+}
+
+/// The least levels of a deep tree, children of a bushy one, and strings that a search goes back over far; other kinds of cases hardly have them.
+pub const DEEP: usize = 48;
+pub const BUSHY: usize = 48;
+pub const FAR: usize = 2;
+
+/// How far a tree's paths go.
+#[derive(Clone, Copy, Debug, Default, PartialEq)]
+pub struct Shape {
+    /// The values that are decided on the longest path.
+    pub levels: usize,
+    /// The most children of a node.
+    pub widest: usize,
+    /// The most strings that the search goes back over at once.
+    pub back: usize,
 }
 
 impl Known {
+    fn of(row: &Row) -> Known {
+        let solution = row.solved().zip(row.solution()).map(|(node, strings)| Solution { node, strings });
+        Known { nodes: row.nodes(), solution, shape: Shape { levels: row.levels(), widest: row.widest(), back: row.back() } }
+    }
+
+    /// The count at which the search ends, given the budget for it.
+    pub fn end(&self) -> u32 {
+        self.solution.as_ref().map_or(self.nodes, |solution| solution.node)
+    }
+
     /// The outcome within a budget.
     pub fn outcome(&self, budget: u32) -> Outcome {
         match &self.solution {
-            _ if budget < self.nodes => Outcome::Spent(budget),
-            Some(_) => Outcome::Found(self.nodes),
+            _ if budget < self.end() => Outcome::Spent(budget),
+            Some(solution) => Outcome::Found(solution.node),
             None => Outcome::None(self.nodes),
         }
     }
 
     /// The table of the solution, if there is one.
     pub fn table(&self) -> Option<Vec<u64>> {
-        let strings = self.solution.as_ref()?;
-        Some(strings.iter().flat_map(|string| just(string)).collect())
+        self.solution.as_ref().map(|solution| locks::table(&solution.strings))
     }
 }
 
 /// The program's budget, and so the count up to which trees are asked for.
 pub const MOST: u32 = 65_536;
 
-/// Trees around the program's budget, one after the other.
+/// Where the searches around the program's budget end, one after the other, and whether with a solution.
 const FULL: [(u32, bool); 6] = [(MOST, false), (MOST + 1, true), (MOST, true), (MOST + 1, false), (MOST - 1, true), (MOST - 1, false)];
 
-/// A tree with a count between those that small and hard problems reach and the program's budget.
-pub fn known(random: &mut Random) -> (Draft, Known) {
+/// Makes a row whose search ends at this count, with a solution or without, or does not find one this time.
+type Maker = fn(&mut Random, u32, bool) -> Option<Row>;
+
+/// Each has rows for all the counts of `FULL`.
+const MAKERS: [Maker; 3] = [single, deep, bushy];
+
+/// Those of the trees that are not around the program's budget.
+const SMALLER: [Maker; 5] = [single, deep, bushy, deep, split];
+
+/// A tree whose search ends at a count between those that small and hard problems reach and the program's budget: number `which` of ten sorts.
+pub fn known(random: &mut Random, which: u64) -> (Draft, Known) {
     let most = *random.pick(&[1_000, 3_000, 3_000, 6_000]);
+    let maker = SMALLER[(which % 5) as usize];
+    let never = which % 2 == 1;
     loop {
-        let nodes = random.between(600, most) as u32;
-        if let Some(places) = places(random, nodes) {
-            let solved = random.once_in(2);
-            let (draft, strings) = if random.once_in(3) { chain(&places, solved) } else { lock(&places, solved) };
-            return (draft, Known { nodes, solution: solved.then_some(strings) });
+        let end = random.between(600, most) as u32;
+        if let Some(row) = maker(random, end, !never) {
+            return problem(random, &row);
         }
     }
 }
 
-/// The tree that is number `which` of those around the program's budget.
+/// The tree that is number `which` of those around the program's budget: of 18 in turn each maker has each count once with a solution and once without.
 pub fn full(random: &mut Random, which: u64) -> (Draft, Known) {
-    let (nodes, solved) = FULL[(which % FULL.len() as u64) as usize];
-    let places = places(random, nodes).expect("each of these counts has places");
-    let (draft, strings) = lock(&places, solved);
-    (draft, Known { nodes, solution: solved.then_some(strings) })
+    let maker = MAKERS[(which % 3) as usize];
+    let (end, solved) = FULL[((which + which / 6) % 6) as usize];
+    loop {
+        if let Some(row) = maker(random, end, solved) {
+            return problem(random, &row);
+        }
+    }
 }
 
-/// Counts of symbols at the open places for a tree of so many nodes, if there are such. The last is at least 3, so that a key does not show before its place
-/// is decided.
-fn places(random: &mut Random, nodes: u32) -> Option<Vec<usize>> {
+/// The order of the constraints says in which order values are struck, and so nothing of the tree.
+fn problem(random: &mut Random, row: &Row) -> (Draft, Known) {
+    let mut draft = row.draft();
+    random.shuffle(&mut draft.records);
+    (draft, Known::of(row))
+}
+
+fn last_key(solved: bool) -> Key {
+    if solved {
+        Key::Last
+    } else {
+        Key::None
+    }
+}
+
+/// One lock.
+fn single(random: &mut Random, end: u32, solved: bool) -> Option<Row> {
+    let places = places(random, end, 2..=64)?;
+    Some(Row::of(vec![Lock::new(last_key(solved), places)]))
+}
+
+/// One lock whose open places are a string of their own, its last symbol another, and both joined.
+fn split(random: &mut Random, end: u32, solved: bool) -> Option<Row> {
+    let places = places(random, end, 2..=64)?;
+    let locks = vec![Lock::new(Key::Any, places), Lock::new(last_key(solved), vec![])];
+    Some(Row { locks, joined: true })
+}
+
+/// Many locks, two symbols at most of their places. At times the first string is open whatever it is; with a solution it is joined to the last then, and the
+/// search goes back to it again and again before it finds. Without one it goes back over several strings in any case.
+fn deep(random: &mut Random, end: u32, solved: bool) -> Option<Row> {
+    let around = random.once_in(if solved { 2 } else { 3 }).then(|| random.between(2, 5));
+    // The second solver settles every string at every node, so that many strings in a large tree take it too long.
+    let most = if end > 20_000 { 10 } else { 14 };
+    let count = random.between(8, most - usize::from(around.is_some()));
+    // Shares of the tree that are about the same, of which the last lock gets what the others leave.
+    let share = end as usize / count / around.unwrap_or(1);
+    let mut locks: Vec<Lock> = around.iter().map(|&symbols| Lock::new(Key::Any, vec![symbols])).collect();
+    for _ in 1..count {
+        let key = *random.pick(&[Key::Last, Key::Last, Key::First]);
+        locks.push(narrow(random, key, share));
+    }
+    locks.push(Lock::new(last_key(solved), vec![]));
+    let mut row = filled(random, Row { locks, joined: solved && around.is_some() }, end, 2..=5)?;
+    let behind = if solved { 0 } else { random.below(3) };
+    for _ in 0..behind {
+        let key = *random.pick(&[Key::None, Key::Last, Key::First]);
+        row.locks.push(narrow(random, key, share));
+    }
+    (row.levels() >= DEEP && (solved || row.back() >= FAR)).then_some(row)
+}
+
+/// A lock with so many nodes or fewer, two symbols at most of its places; more often than not a ladder.
+fn narrow(random: &mut Random, key: Key, nodes: usize) -> Lock {
+    let symbols = |random: &mut Random| if random.once_in(8) { 3 } else { 2 };
+    if !random.once_in(3) {
+        let rungs = random.between(15, 61).min(nodes / 3).max(1);
+        return Lock::ladder(key, (0..rungs).map(|_| symbols(random)).collect());
+    }
+    let mut places = vec![3];
+    let mut count = 4;
+    let most = nodes >> random.below(3);
+    loop {
+        let first = symbols(random);
+        count = 1 + first * count;
+        if count > most {
+            return Lock::new(key, places);
+        }
+        places.insert(0, first);
+    }
+}
+
+/// One or two locks with many symbols at each place.
+fn bushy(random: &mut Random, end: u32, solved: bool) -> Option<Row> {
+    let key = *random.pick(&[Key::Last, Key::First]);
+    let mut places = vec![random.between(BUSHY, 64), random.between(8, 64)];
+    places.extend((end > 20_000).then(|| random.between(8, 24)));
+    random.shuffle(&mut places);
+    let mut locks = vec![Lock::new(key, places), Lock::new(last_key(solved), vec![])];
+    if random.once_in(3) {
+        locks.remove(0);
+    }
+    let row = filled(random, Row::of(locks), end, 8..=64)?;
+    (row.widest() >= BUSHY).then_some(row)
+}
+
+/// The row with such places in its last lock, which has none yet, that its search ends at this count.
+fn filled(random: &mut Random, mut row: Row, end: u32, symbols: RangeInclusive<usize>) -> Option<Row> {
+    let times = if row.locks[0].key == Key::Any { row.locks[0].opened() } else { 1 };
+    let left = end.checked_sub(row.solved().unwrap_or_else(|| row.nodes()))?;
+    if left % times != 0 {
+        return None;
+    }
+    row.locks.last_mut().expect("there is a lock").places = places(random, left / times + 1, symbols)?;
+    Some(row)
+}
+
+/// Counts of symbols at the open places of a lock with so many nodes, if there are such within the range; the last is at least 3, see `Lock`.
+fn places(random: &mut Random, nodes: u32, symbols: RangeInclusive<usize>) -> Option<Vec<usize>> {
     let below_root = nodes as usize - 1;
-    let mut firsts: Vec<usize> = (2..=64).filter(|first| below_root % first == 0 && below_root > *first).collect();
+    let mut firsts: Vec<usize> = symbols.clone().filter(|first| below_root % first == 0 && below_root > *first).collect();
     random.shuffle(&mut firsts);
     for first in firsts {
-        if let Some(others) = places(random, (below_root / first) as u32) {
+        if let Some(others) = places(random, (below_root / first) as u32, symbols.clone()) {
             return Some([vec![first], others].concat());
         }
     }
-    (3..=64).contains(&below_root).then(|| vec![below_root])
-}
-
-/// One string. Answers also what it is where it opens.
-fn lock(places: &[usize], with_key: bool) -> (Draft, Vec<Vec<u8>>) {
-    let symbols = *places.iter().max().expect("there is a place");
-    let mut draft = Draft::over(symbols);
-    let mut row = NOTHING;
-    row[0] = 1 << (places.len() + 1);
-    for (word, &count) in row[1..].iter_mut().zip(places) {
-        *word = greatest(symbols, count);
-    }
-    row[places.len() + 1] = 0b11;
-    let string = draft.string(row);
-    hold(&mut draft, string, with_key);
-    (draft, vec![key(symbols, places.len())])
-}
-
-/// The greatest symbol so often, then 0 or 1 by their sum.
-fn key(symbols: usize, places: usize) -> Vec<u8> {
-    let last = (symbols - 1) * places % 2;
-    [vec![(symbols - 1) as u8; places], vec![last as u8]].concat()
-}
-
-/// The open places in a string of their own, the last symbol in another, and the lock joined from both.
-fn chain(places: &[usize], with_key: bool) -> (Draft, Vec<Vec<u8>>) {
-    let (mut draft, strings) = lock(places, with_key);
-    let symbols = draft.symbols;
-    let mut open = draft.rows[0];
-    open[0] = 1 << places.len();
-    open[places.len() + 1] = 0;
-    draft.rows = vec![open, any(1, 1, 0b11), any(0, places.len() + 1, below(symbols))];
-    draft.records.iter_mut().for_each(|record| record[1] = 2);
-    draft.cat(0, 1, 2);
-    let (open, last) = strings[0].split_at(places.len());
-    (draft, vec![open.to_vec(), last.to_vec(), strings[0].clone()])
-}
-
-/// So many of the symbols, the greatest.
-fn greatest(symbols: usize, count: usize) -> u64 {
-    below(symbols) & !below(symbols - count)
-}
-
-/// Holds the string to both automata.
-fn hold(draft: &mut Draft, string: u8, with_key: bool) {
-    let symbols = draft.symbols;
-    for (opposite, key) in [(false, false), (true, with_key)] {
-        let at = draft.machine(last_by_sum(symbols, opposite, key));
-        draft.regular(string, at);
-    }
-}
-
-/// Accepts where the last symbol is odd if the sum of those before it is, and even if not; or the opposite, with a key save where all before it are the
-/// greatest.
-///
-/// A state says whether another symbol than the greatest was read, whether the sum is odd, and whether the last symbol was as wanted.
-fn last_by_sum(symbols: usize, opposite: bool, key: bool) -> Vec<u8> {
-    let moves: Vec<u8> = (0..8u8)
-        .flat_map(|state| {
-            let (other, odd) = (state & 4 != 0, state >> 1 & 1);
-            (0..symbols).map(move |symbol| {
-                let this = symbol as u8 & 1;
-                let turned = opposite && (other || !key);
-                let wanted = (this == odd) != turned;
-                u8::from(other || symbol + 1 < symbols) << 2 | (odd ^ this) << 1 | u8::from(wanted)
-            })
-        })
-        .collect();
-    machine(8, 0b1010_1010, &moves)
+    (below_root >= 3 && symbols.contains(&below_root)).then(|| vec![below_root])
 }
 
 #[cfg(test)]
 mod tests {
     use super::*;
-
-    /// What the second solver comes to, and the strings that it finds.
-    fn searched(draft: &Draft, budget: u32) -> (Outcome, Vec<u64>) {
-        let file = draft.bytes();
-        let words = second::read(&file).unwrap().words();
-        let mut table = vec![0; words];
-        (second::search(&file, budget, &mut vec![0; 3 * words], &mut table).unwrap(), table)
-    }
+    use crate::locks::tests::searched;
 
     #[test]
-    fn trees_by_hand() {
-        // 1 + 2 + 2 * 3 = 9 nodes, the last of them solved where there is a key: 2 2 at the open places, and an even sum.
-        for made in [lock, chain] {
-            assert_eq!(searched(&made(&[2, 3], false).0, 100).0, Outcome::None(9));
-            assert_eq!(searched(&made(&[2, 3], true).0, 100).0, Outcome::Found(9));
-            assert_eq!(made(&[2, 3], true).1.last(), Some(&vec![2, 2, 0]));
-        }
-        assert_eq!(searched(&lock(&[4, 2, 5], true).0, 100).0, Outcome::Found(1 + 4 + 8 + 40));
-        let known = Known { nodes: 9, solution: None };
+    fn outcomes_within_budgets() {
+        let known = Known { nodes: 9, ..Known::default() };
         assert_eq!([8, 9, 10].map(|budget| known.outcome(budget)), [Outcome::Spent(8), Outcome::None(9), Outcome::None(9)]);
+        let known = Known { solution: Some(Solution { node: 4, strings: vec![] }), ..known };
+        assert_eq!([3, 4, 9].map(|budget| known.outcome(budget)), [Outcome::Spent(3), Outcome::Found(4), Outcome::Found(4)]);
     }
 
     #[test]
     fn places_make_the_count() {
         let random = &mut Random::new(11, 0);
         for nodes in [MOST - 1, MOST, MOST + 1, 4_097] {
-            let places = places(random, nodes).unwrap();
-            let widths = places.iter().scan(1, |width, &count| {
-                *width *= count;
-                Some(*width)
-            });
-            assert_eq!(1 + widths.sum::<usize>(), nodes as usize, "{places:?}");
+            let places = places(random, nodes, 2..=64).unwrap();
+            assert_eq!(Lock::new(Key::None, places.clone()).nodes(), nodes, "{places:?}");
             assert!(*places.last().unwrap() >= 3);
         }
         // One less than 600 is 599, a prime above 64.
-        assert_eq!(places(random, 600), None);
+        assert_eq!(places(random, 600, 2..=64), None);
     }
 
     #[test]
     fn known_trees_are_as_known() {
-        for index in 0..6 {
-            let (draft, known) = known(&mut Random::new(12, index));
+        for index in 0..12 {
+            let (draft, known) = known(&mut Random::new(12, index), index);
             let (outcome, table) = searched(&draft, u32::MAX);
             assert_eq!(outcome, known.outcome(u32::MAX), "index {index}");
             assert!(known.table().is_none_or(|answer| answer == table), "index {index}");
+        }
+    }
+
+    /// They fit in a file, and end among the counts that are asked for; of 100 enough are deep, bushy, and searched back over several strings.
+    #[test]
+    fn known_trees_have_many_shapes() {
+        let trees: Vec<(Draft, Known)> = (0..100).map(|index| known(&mut Random::new(14, index), index)).collect();
+        assert!(trees.iter().all(|(draft, known)| second::read(&draft.bytes()).is_ok() && (600..=6_000).contains(&known.end())));
+        let count = |far: fn(&Shape) -> bool| trees.iter().filter(|(_, known)| far(&known.shape)).count();
+        let counts =
+            [count(|shape| shape.levels >= DEEP), count(|shape| shape.levels >= 200), count(|shape| shape.widest >= BUSHY), count(|shape| shape.back >= FAR)];
+        assert!(counts.iter().all(|&count| count >= 10), "{counts:?}");
+        assert!(trees.iter().any(|(_, known)| known.shape.back >= FAR && known.solution.is_some()));
+        assert!(trees.iter().any(|(_, known)| known.nodes > known.end() + 1));
+    }
+
+    /// Each maker has each count with a solution and without, in the shape that it is for, and fits in a file.
+    #[test]
+    fn full_trees_end_where_they_should() {
+        let mut seen = Vec::new();
+        for which in 0..54 {
+            let (draft, known) = full(&mut Random::new(13, which), which);
+            assert!(second::read(&draft.bytes()).is_ok(), "tree {which}");
+            match which % 3 {
+                1 => assert!(known.shape.levels >= DEEP, "tree {which}: {:?}", known.shape),
+                2 => assert!(known.shape.widest >= BUSHY && known.shape.levels <= 8, "tree {which}: {:?}", known.shape),
+                _ => {}
+            }
+            seen.push((which % 3, known.end(), known.solution.is_some()));
+        }
+        for maker in 0..3 {
+            assert!(FULL.iter().all(|&(end, solved)| seen[..18].contains(&(maker, end, solved))), "maker {maker}");
         }
     }
 }
