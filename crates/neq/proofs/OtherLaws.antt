@@ -33,12 +33,12 @@ module _ (x v : List ℕ) (lx : length x ≡ 64) (bx : Words x) (bv : (i : ℕ) 
   differing-length i = simp length-set lx
 
   -- in word i, x's bits that v lacks
-  differing-here : (i : ℕ) → i < 64 → word (differingAt x v i) i ≡ bitAnd (word x i) (2 ^ 64 - 1 - word v i)
+  pub differing-here : (i : ℕ) → i < 64 → word (differingAt x v i) i ≡ bitAnd (word x i) (2 ^ 64 - 1 - word v i)
   unfolding differingAt
   differing-here i h = getD-set-same (set x 0 (bitAnd (word x 0) (word v 0))) i _ 0 (simp length-set (omega arith))
 
   -- at a place, the lengths of both
-  differing-lengths : (j : ℕ) → word (differingAt x v (suc j)) 0 ≡ bitAnd (word x 0) (word v 0)
+  pub differing-lengths : (j : ℕ) → word (differingAt x v (suc j)) 0 ≡ bitAnd (word x 0) (word v 0)
   unfolding differingAt
   differing-lengths j = getD-set-other (set x 0 (bitAnd (word x 0) (word v 0))) (suc j) 0 _ 0 (omega arith) ∙ getD-set-same x 0 _ 0 (omega arith)
 
@@ -55,7 +55,7 @@ module _ (x v : List ℕ) (lx : length x ≡ 64) (bx : Words x) (bv : (i : ℕ) 
       let t = of-and-bit (word x i) (2 ^ 64 - 1 - word v i) b (ap (λ (a : ℕ). bit a b) (sym (differing-here i h)) ∙ e) in
       (t .0, not-true (bit (word v i) b) (sym (bit-flip 64 (word v i) b (bv i) (bx i b (t .0))) ∙ t .1))
 
-  differing-within : (i : ℕ) → i < 64 → (j : ℕ) → Within (word (differingAt x v i) j) (word x j)
+  pub differing-within : (i : ℕ) → i < 64 → (j : ℕ) → Within (word (differingAt x v i) j) (word x j)
   differing-within zero h zero b e = of-lacking 0 b h e .0
   differing-within (suc i) h zero b e = of-and-bit (word x 0) (word v 0) b (ap (λ (a : ℕ). bit a b) (sym (differing-lengths i)) ∙ e) .0
   differing-within i h (suc j) b e = go (eqb (suc j) i) refl

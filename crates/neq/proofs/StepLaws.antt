@@ -14,7 +14,7 @@ use Rattle.model.specs.Words.{several, word, Words}
 use Rattle.model.specs.Constraints.{neq, differ, variables, meets, Problem, width}
 use Rattle.model.specs.Solutions.{textBit}
 use Rattle.model.specs.Support.{narrowed}
-use Rattle.words.specs.Ends.{Highest}
+use Rattle.words.specs.Ends.{Lowest}
 use Rattle.rows.specs.Rows.{alone, trimmed, stored}
 use Rattle.rows.proofs.Fill.{array-words}
 use Rattle.rows.proofs.TrimLaws.{trimmed-supports}
@@ -54,9 +54,9 @@ module _ (x y v : List ℕ) (lx : length x ≡ 64) (ly : length y ≡ 64) (bx : 
       (w, in-kind x v lx bx (λ i. fits i .fits) u small only w (a .in-row) (subst (λ (z : List ℕ). differ w z ≡ true) q (a .apart)), λ i h. refl))
       (other-supports x v lx bx (λ i. fits i .fits) (suc (length u)) small)
 
-  pub against-one : any several v ≡ false → (top : ℕ) → Highest (word v 0) top → Supports (Against x y) textBit 64 (otherThan x v (top + 1))
-  against-one one top high =
-      let f = left .sound 0 top (omega arith) (high .here) in
+  pub against-one : any several v ≡ false → (top : ℕ) → Lowest (word v 0) top → Supports (Against x y) textBit 64 (otherThan x v (top + 1))
+  against-one one top low =
+      let f = left .sound 0 top (omega arith) (low .here) in
       rw (add-one, ← used-length (f .0) top (f .2)) (against-string one (f .0) (f .1))
 
   -- y stands for several strings: each string of x differs from one of them

@@ -2,16 +2,17 @@
 //
 // Assumes nothing, and requires nothing of its rows.
 ghost use mathlib.Core.Path.{_≡_};
-ghost use mathlib.Core.Bool.{not};
+ghost use mathlib.Core.Bool.{true, not};
 ghost use mathlib.Core.List.{List, [], _++_};
-ghost use Prim.Native.Nat.{ℕ, _<_, _≤_};
+ghost use Prim.Native.Nat.{ℕ, _<_, _+_};
 ghost use lib.ListN.{length};
 ghost use Rattle.model.specs.Lists.{any};
-ghost use Rattle.model.specs.Words.{several, Words};
+ghost use Rattle.model.specs.Words.{several, word, Words};
 ghost use Rattle.model.specs.Constraints.{neq};
 ghost use Rattle.model.specs.Solutions.{textBit};
 ghost use Rattle.model.specs.Support.{narrowed};
 ghost use Rattle.laws.specs.Supported.{Supports};
+ghost use Rattle.words.specs.Ends.{Lowest};
 ghost use Rattle.rows.specs.Rows.{alone, trimmed};
 ghost use Rattle.neq.specs.Others.{Against, differingAt, otherThan};
 
@@ -40,16 +41,36 @@ fn differing_at(x: [u64; 64], v: [u64; 64], i: usize) -> [u64; 64]
     r
 }
 
-// What those strings of x use that differ from v's one string in one of the first n words: a union of n trimmed rows.
-fn other_than(x: [u64; 64], v: [u64; 64], n: usize) -> [u64; 64]
-    requires { ⌜ n ≤ 64 ⌝ }
-    ensures { λ r. ⌜ r ≡ otherThan x v n ⌝ }
+// Whether two rows agree in every word. They are lent: a row by value is copied.
+fn same(r: &[u64; 64], s: &[u64; 64]) -> bool
+    ensures { λ b. ⌜ (b ≡ true → (i : ℕ) → i < 64 → word (now (r .entry)) i ≡ word (now (s .entry)) i) ⌝ }
+{
+    let mut j: usize = 0;
+    while j < 64 {
+        if r[j] != s[j] {
+            return false;
+        }
+        j += 1;
+    }
+    true
+}
+
+// What those strings of x use that differ from v's one string, of length top, in one of the words up to top: a union of trimmed rows.
+// A word where x has nothing that v lacks adds nothing, and nothing is added to all that x's strings use, which is u.
+fn other_than(x: [u64; 64], u: [u64; 64], v: [u64; 64], top: usize) -> [u64; 64]
+    requires { ⌜ Lowest (word v 0) top ⌝ }
+    ensures { λ r. ⌜ (u ≡ trimmed x → r ≡ otherThan x v (top + 1)) ⌝ }
 {
     let mut r = [0u64; 64];
     let mut t: usize = 0;
-    while t < n {
-        let more = rows::join(rows::trim(differing_at(x, v, t)), r);
-        r = more;
+    while t <= top {
+        if x[t] & !v[t] != 0 {
+            let more = rows::join(rows::trim(differing_at(x, v, t)), r);
+            if same(&more, &u) {
+                return more;
+            }
+            r = more;
+        }
         t += 1;
     }
     r
@@ -63,7 +84,7 @@ fn side(x: [u64; 64], u: [u64; 64], v: [u64; 64]) -> [u64; 64]
         return [0u64; 64];
     }
     if one_string(v) {
-        return other_than(x, v, words::highest(v[0]) + 1);
+        return other_than(x, u, v, words::lowest(v[0]));
     }
     u
 }

@@ -12,7 +12,7 @@ use Rattle.neq.proofs.side.Reads as reads
 use Rattle.neq.proofs.side.Lts as lts
 use Rattle.neq.proofs.other_than.Reads as other-than-reads
 use Rattle.neq.proofs.one_string.Reads as one-string-reads
-use Rattle.words.proofs.highest.Reads as highest-reads
+use Rattle.words.proofs.lowest.Reads as lowest-reads
 
 array-read-if1 : tie.Need-array-read-if1
 array-read-if1 c = search needs
@@ -25,14 +25,11 @@ returns c =
 one-string-requires : tie.Need-one-string-requires
 one-string-requires c κs = search needs
 
-array-read-highest : tie.Need-array-read-highest
-array-read-highest c = search needs
+array-read-lowest : tie.Need-array-read-lowest
+array-read-lowest c = search needs
 
-highest-requires : tie.Need-highest-requires
-highest-requires c κs = search needs
-
-add-other-than : tie.Need-add-other-than
-add-other-than c = search needs
+lowest-requires : tie.Need-lowest-requires
+lowest-requires c κs = search needs
 
 other-than-requires : tie.Need-other-than-requires
 other-than-requires c κs = search needs
@@ -43,8 +40,8 @@ returns-2 c =
     let x = s .args .x in
     let v = s .args .t3 in
     let one : any several v ≡ false = not-true (any several v) (sym (c .before .before .before .one-string .ensures) ∙ c .before .before .if2 .taken) in
-    λ y ly wy eu ev. rw (c .other-than .ensures)
-    (against-one x y v (search needs) ly (array-words x (λ i. search needs)) wy (λ i. search needs) ev one (c .before .highest .result) (c .before .highest .ensures))
+    λ y ly wy eu ev. rw (c .other-than .ensures eu)
+    (against-one x y v (search needs) ly (array-words x (λ i. search needs)) wy (λ i. search needs) ev one (c .before .lowest .result) (c .before .lowest .ensures))
 
 returns-3 : tie.Need-returns-3
 returns-3 c =
@@ -61,9 +58,8 @@ side-spec =
     array-read-if1
     returns
     one-string-requires
-    array-read-highest
-    highest-requires
-    add-other-than
+    array-read-lowest
+    lowest-requires
     other-than-requires
     returns-2
     returns-3)
