@@ -28,8 +28,8 @@
  * it has as many elements as the count says, and no memory that an entry writes overlaps other memory that it is given. Given that, every call ends and
  * touches nothing else; no entry keeps a pointer, allocates, or has state of its own, so calls on separate buffers may run at once.
  *
- * Stack. Search goes deepest: 147,512 bytes below its caller, measured on problems at every limit (bench/stack.py); one Regular constraint on a string of 63
- * symbols is enough for that, and Settle, Step and Perform then take hardly less. A thread that calls them should have COBLESKEG_STACK bytes of stack, or more
+ * Stack. Perform goes deepest: 147,336 bytes below its caller, measured on problems at every limit (bench/stack.py); one Regular constraint on a string of 63
+ * symbols is enough for that, and Settle, Search and Step then take hardly less. A thread that calls them should have COBLESKEG_STACK bytes of stack, or more
  * where the caller itself needs much. A thread of 148 KiB, in which the system has its share, was seen to crash.
  */
 #ifndef COBLESKEG_H

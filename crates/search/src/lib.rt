@@ -23,10 +23,10 @@ pub enum Outcome {
 
 // Where a search stands. The current table is a child at word `from` of a settled table, or any table where there is no such word; before `depth` there is
 // nothing to branch on, and from there on nothing waits; the kept table was branched at word `kept`.
-pub struct Path {
-    pub from: usize,
-    pub depth: usize,
-    pub kept: usize,
+struct Path {
+    from: usize,
+    depth: usize,
+    kept: usize,
 }
 
 // What visiting one node says: it is solved, or it is dead and none waits, or the next one is ready.
