@@ -12,10 +12,9 @@ python3 tests/edges.py || exit 1
 python3 tests/nodes.py || exit 1
 python3 tests/text.py || exit 1
 
-# Jobs run in batches, and a batch ends with its slowest job: three for each processor leave none idle for long. A job takes up to 1.4 GiB of memory.
-jobs=$((3 * $(getconf _NPROCESSORS_ONLN)))
-fitting=$(($(getconf _PHYS_PAGES) / 1024 * $(getconf PAGE_SIZE) / 1024 / 1500))
-[ "$jobs" -le "$fitting" ] || jobs=$((fitting > 1 ? fitting : 1))
+# One job more than there are processors, since a job also waits; at most 4, for memory.
+jobs=$(($(getconf _NPROCESSORS_ONLN) + 1))
+[ "$jobs" -le 4 ] || jobs=4
 export RT_JOBS="${RT_JOBS:-$jobs}"
 
 work=$(mktemp -d) || exit 1
