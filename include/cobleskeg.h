@@ -1,7 +1,7 @@
 /* Cobleskeg: can two parts of a template set ever produce one name?
  *
  * The entries of the proved library, for programs in C. `rt staticlib cobleskeg_c` builds the archive target/staticlib/libcobleskeg_c.a; of
- * other libraries it takes memcpy, memmove and memset alone. docs/GUIDE.md says how to model a question as a problem file, and how to read the answer.
+ * other libraries it takes memcpy and memset alone. docs/GUIDE.md says how to model a question as a problem file, and how to read the answer.
  *
  * Tables. The alphabet has k symbols, 0 to k - 1. A problem has s strings and t numbers. A string's row is 64 words: bit l of word 0 allows the length l, bit
  * a of word i (1 to 63) allows the symbol a at place i. A number has one word: bit v allows the value v. A table is the s rows, then the t words of the
@@ -28,9 +28,9 @@
  * it has as many elements as the count says, and no memory that an entry writes overlaps other memory that it is given. Given that, every call ends and
  * touches nothing else; no entry keeps a pointer, allocates, or has state of its own, so calls on separate buffers may run at once.
  *
- * Stack. Perform goes deepest: 147,336 bytes below its caller, measured on problems at every limit (bench/stack.py); one Regular constraint on a string of 63
- * symbols is enough for that, and Settle, Search and Step then take hardly less. A thread that calls them should have COBLESKEG_STACK bytes of stack, or more
- * where the caller itself needs much. A thread of 148 KiB, in which the system has its share, was seen to crash.
+ * Stack. Search goes deepest: 25,856 bytes below its caller, measured on problems at every limit (bench/stack.py); one Regular constraint on a string of 63
+ * symbols is enough for that, and Step, Settle and Perform then take some 4,000 less. A thread that calls them should have COBLESKEG_STACK bytes of stack, or
+ * more where the caller itself needs much.
  */
 #ifndef COBLESKEG_H
 #define COBLESKEG_H
@@ -60,8 +60,8 @@ extern "C" {
 #define COBLESKEG_LARGEST_FILE 25024
 #define COBLESKEG_LARGEST_TABLE 1040
 
-/* The stack of a thread that calls the entries, in bytes: what they were measured to take, and a third more. */
-#define COBLESKEG_STACK 196608
+/* The stack of a thread that calls the entries, in bytes: more than twice what they were measured to take. */
+#define COBLESKEG_STACK 65536
 
 /* The version of the archive that is linked. Where it is not COBLESKEG_VERSION, the program was compiled with another archive's header. */
 uint32_t cobleskeg_version(void);

@@ -43,9 +43,9 @@ pub const LARGEST_FILE: usize = 25_024;
 /// The words of the largest table.
 pub const LARGEST_TABLE: usize = 1_040;
 
-/// The bytes of stack that a thread should have which calls [`search`], [`solve`], [`settle`], [`step`] or [`perform`]: what they were measured to take, and a
-/// third more. Rust's own threads have more, where nothing else is said.
-pub const STACK: usize = 196_608;
+/// The bytes of stack that a thread should have which calls [`search`], [`solve`], [`settle`], [`step`] or [`perform`]: more than twice what they were measured
+/// to take. The threads that Rust makes have more.
+pub const STACK: usize = 65_536;
 
 /// The counts of a problem file.
 #[derive(Clone, Copy, Debug, Default, PartialEq, Eq)]

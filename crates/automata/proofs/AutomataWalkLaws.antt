@@ -250,3 +250,6 @@ reached-start k bs i at held r = record {
       let z : i + 0 ≡ i = omega arith in
       sym (getD-drop i As 0 noAutomaton ∙ ap (λ (n : ℕ). getD As n noAutomaton) z) ∙ ap (λ l. getD l 0 noAutomaton) (first-reached k bs i at r d As e l .3);
 }
+
+pub starts-lent : (k : ℕ) (bs : List ℕ) (i at : ℕ) → Starts k bs i at → Whole k (lent at bs)
+starts-lent k bs i at s = subst (Whole k) (sym (rest-lent at bs)) (s .whole)

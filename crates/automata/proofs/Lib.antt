@@ -2,3 +2,5 @@
 pub mod MachineLaws
 pub mod SetLaws
 pub mod AutomataWalkLaws
+pub mod KindLaws
+pub mod TargetLaws

@@ -1,5 +1,4 @@
--- Loops that gather a set: the numbers from 0 on, or the set bits of a word, are taken one after the other, and each adds nothing or a set of its own.
--- Assumes nothing.
+-- Loops that gather a set: the set bits of a word are taken one after the other, and each adds nothing or a set of its own. Assumes nothing.
 use mathlib.Core.Path.{_≡_, refl, sym, ap, subst, _∙_}
 use mathlib.Core.Logic.{_⊎_, inl, inr, ⊎-elim}
 use mathlib.Core.Bool.{Bool, true, false, not, false≢true}
@@ -17,52 +16,16 @@ use Rattle.laws.proofs.ListLaws.{and-true, true-and}
 use Rattle.laws.proofs.WordLaws.{zero-bit, pow-self, pow-only, or-bit-left, or-bit-right, of-or-bit, bit-high, bit-le, bit-sub, sub-within}
 use Rattle.laws.proofs.ShiftLaws.{bit-and, bit-mask}
 use Rattle.words.specs.Ends.{Lowest}
-use Rattle.automata.specs.StateSets.{Gathered, Found, LowBits, Moves, Enters, Successors, Predecessors}
+use Rattle.automata.specs.StateSets.{Gathered, Found, LowBits, Moves, Enters, Successors}
 
 -- a word that is 0 has no bit
 pub no-bit : (w i : ℕ) → w ≡ 0 → bit w i ≡ true → ⊥
 no-bit w i e b = false≢true (sym (zero-bit i) ∙ ap (λ (v : ℕ). bit v i) (sym e) ∙ b)
 
 module _ (E : ℕ → ℕ → Type 0) where
-  pub gathered-none : Gathered 0 E 0
-  gathered-none = record { sound = λ t e. absurd (false≢true (sym (zero-bit t) ∙ e)); complete = λ t i h x. absurd (omega arith) }
-
-  -- where nothing is given at all
+  -- nothing is given at all
   pub gathered-empty : (n : ℕ) → ((i t : ℕ) → E i t → ⊥) → Gathered n E 0
   gathered-empty n never = record { sound = λ t e. absurd (false≢true (sym (zero-bit t) ∙ e)); complete = λ t i h x. absurd (never i t x) }
-
-  pub gathered-upto : (n m r : ℕ) → n ≡ m → Gathered n E r → Gathered m E r
-  gathered-upto n m r e g = subst (λ (i : ℕ). Gathered i E r) e g
-
-  module _ (n r : ℕ) (g : Gathered n E r) where
-    -- number n gives nothing
-    pub gathered-skip : ((t : ℕ) → E n t → ⊥) → Gathered (n + 1) E r
-    gathered-skip never = rw add-one (record {
-      sound = λ t e. let u = g .sound t e in let h = u .1 in (u .0, omega arith, u .2);
-      complete = λ t i h x. ⊎-elim
-          (λ q. absurd (never t (subst (λ (j : ℕ). E j t) q x)))
-          (λ l. g .complete t i l x)
-          (eq-or-lt-of-le (le-of-suc-le-suc h));
-    })
-
-    -- number n gives the set s
-    pub gathered-add : (s : ℕ) → ((t : ℕ) → bit s t ≡ true → E n t) → ((t : ℕ) → E n t → bit s t ≡ true) → Gathered (n + 1) E (bitOr s r)
-    gathered-add s only all = rw add-one (record {
-      sound = λ t e. ⊎-elim
-          (λ q. (n, omega arith, only t q))
-          (λ q. let u = g .sound t q in let h = u .1 in (u .0, omega arith, u .2))
-          (of-or-bit s r t e);
-      complete = λ t i h x. ⊎-elim
-          (λ q. or-bit-left s r t (all t (subst (λ (j : ℕ). E j t) q x)))
-          (λ l. or-bit-right s r t (g .complete t i l x))
-          (eq-or-lt-of-le (le-of-suc-le-suc h));
-    })
-
-    -- number n gives the one number m
-    pub gathered-one : (m : ℕ) → E n m → ((t : ℕ) → E n t → m ≡ t) → Gathered (n + 1) E (bitOr (2 ^ m) r)
-    gathered-one m here single = gathered-add (2 ^ m)
-        (λ t e. subst (E n) (sym (pow-only m t e)) here)
-        (λ t x. subst (λ (j : ℕ). bit (2 ^ m) j ≡ true) (single t x) (pow-self m))
 
 -- ---- loops over the set bits of a word, the lowest first
 
@@ -115,7 +78,8 @@ module _ (n w : ℕ) (E : ℕ → ℕ → Type 0) (rest r : ℕ) where
     left i h = sub-within rest a (low .here) i (ap (λ (v : ℕ). bit (rest - v) i) (sym e) ∙ h)
 
     -- v has what r has and what bit a gives, and no more
-    walked-step : (v : ℕ) → ((t : ℕ) → bit v t ≡ true → (bit r t ≡ true) ⊎ E a t) → ((t : ℕ) → bit r t ≡ true → bit v t ≡ true) → ((t : ℕ) → E a t → bit v t ≡ true)
+    pub walked-step : (v : ℕ) → ((t : ℕ) → bit v t ≡ true → (bit r t ≡ true) ⊎ E a t) → ((t : ℕ) → bit r t ≡ true → bit v t ≡ true) →
+        ((t : ℕ) → E a t → bit v t ≡ true)
         → Walked n w E (rest - o) v
     walked-step v only keeps all = record {
       known = λ i h. g .known i (left i h);
@@ -134,7 +98,8 @@ module _ (n w : ℕ) (E : ℕ → ℕ → Type 0) (rest r : ℕ) where
 
     -- bit a gives the set s
     pub walked-add : (s : ℕ) → ((t : ℕ) → bit s t ≡ true → E a t) → ((t : ℕ) → E a t → bit s t ≡ true) → Walked n w E (rest - o) (bitOr s r)
-    walked-add s only all = walked-step (bitOr s r) (λ t h. ⊎-elim (λ x. inr (only t x)) (λ x. inl x) (of-or-bit s r t h)) (or-bit-right s r) (λ t x. or-bit-left s r t (all t x))
+    walked-add s only all = walked-step (bitOr s r) (λ t h. ⊎-elim (λ x. inr (only t x)) (λ x. inl x) (of-or-bit s r t h)) (or-bit-right s r)
+        (λ t x. or-bit-left s r t (all t x))
 
     -- bit a gives the one number m
     pub walked-one : (m : ℕ) → E a m → ((t : ℕ) → E a t → m ≡ t) → Walked n w E (rest - o) (bitOr (2 ^ m) r)
@@ -172,21 +137,24 @@ BySymbol A p symbols a t = (bit symbols a ≡ true) × (move A p a ≡ t)
 abbrev pub ByState : Automaton → ℕ → ℕ → ℕ → ℕ → ℕ → Type 0
 ByState A k set symbols p t = (bit set p ≡ true) × ((a : ℕ) × (a < k) × (bit symbols a ≡ true) × (move A p a ≡ t))
 
--- what state p gives: itself, if it moves into the set by a symbol of the word
-abbrev pub Entering : Automaton → ℕ → ℕ → ℕ → ℕ → ℕ → Type 0
-Entering A k set symbols p t = (p ≡ t) × ((a : ℕ) × (a < k) × (bit symbols a ≡ true) × (bit set (move A p a) ≡ true))
+-- what state p of the first set gives: itself, if it moves into the second by a symbol of the word
+abbrev pub ByEntering : Automaton → ℕ → ℕ → ℕ → ℕ → ℕ → ℕ → Type 0
+ByEntering A k from into symbols p t = (p ≡ t) × (bit from p ≡ true) × ((a : ℕ) × (a < k) × (bit symbols a ≡ true) × (bit into (move A p a) ≡ true))
 
 module _ (A : Automaton) (k symbols : ℕ) where
   pub moves-add : (p rest r a o m u : ℕ) → Walked k symbols (BySymbol A p symbols) rest r → Lowest rest a → o ≡ 2 ^ a → m ≡ move A p a → u ≡ 2 ^ m
       → Walked k symbols (BySymbol A p symbols) (rest - o) (bitOr u r)
   moves-add p rest r a o m u g low e n f = rw f (walked-one k symbols _ rest r a o g low e m (g .known a (low .here) .1, sym n) (λ t x. n ∙ x .1))
 
-  module _ (set p r s : ℕ) (b : Bool) (g : Gathered p (Entering A k set symbols) r) (x : Enters A k p set symbols b) where
-    pub predecessors-skip : b ≡ false → s ≡ r → Gathered (p + 1) (Entering A k set symbols) s
-    predecessors-skip e f = rw f (gathered-skip _ p r g (λ t y. let z = y .1 in false≢true (sym e ∙ x .complete (z .0) (z .1) (z .2, z .3))))
+  module _ (q from into rest r p o s : ℕ) (b : Bool) (g : Walked q from (ByEntering A k from into symbols) rest r) (low : Lowest rest p) (e : o ≡ 2 ^ p)
+      (x : Enters A k p into symbols b) where
+    pub entering-skip : b ≡ false → s ≡ r → Walked q from (ByEntering A k from into symbols) (rest - o) s
+    entering-skip h f = rw f (walked-skip q from _ rest r p o g low e (λ t y. let z = y .2 in false≢true (sym h ∙ x .complete (z .0) (z .1) (z .2, z .3))))
 
-    pub predecessors-add : (u : ℕ) → b ≡ true → u ≡ 2 ^ p → s ≡ bitOr u r → Gathered (p + 1) (Entering A k set symbols) s
-    predecessors-add u e v f = let y = x .sound e in rw (f, v) (gathered-one _ p r g p (refl, (y .0, y .1, y .2 .0, y .2 .1)) (λ t z. z .0))
+    pub entering-add : (u : ℕ) → b ≡ true → u ≡ 2 ^ p → s ≡ bitOr u r → Walked q from (ByEntering A k from into symbols) (rest - o) s
+    entering-add u h v f =
+        let y = x .sound h in
+        rw (f, v) (walked-one q from _ rest r p o g low e p (refl, g .known p (low .here) .1, (y .0, y .1, y .2 .0, y .2 .1)) (λ t z. z .0))
 
   module _ (q set : ℕ) where
     pub successors-add : (rest r p o u : ℕ) → Walked q set (ByState A k set symbols) rest r → Lowest rest p → o ≡ 2 ^ p → Moves A k p symbols u
@@ -199,14 +167,4 @@ module _ (A : Automaton) (k symbols : ℕ) where
     successors-end r g = record {
       sound = λ t b. let y = g .sound t b in let z = y .2 .1 in (z .0, z .1, (z .2, (y .0, y .1, y .2 .0, z .3)));
       complete = λ t a h x. let y = x .1 in g .complete t (y .0) (y .1) (y .2, (a, h, x .0, y .3));
-    }
-
-    pub predecessors-end : (r : ℕ) → Gathered q (Entering A k set symbols) r → Predecessors A q k set symbols r
-    predecessors-end r g = record {
-      sound = λ t b.
-          let y = g .sound t b in
-          let e = y .2 .0 in
-          let z = y .2 .1 in
-          (z .0, z .1, (z .2, subst (λ (p : ℕ). p < q) e (y .1), ap (λ (p : ℕ). bit set (move A p (z .0))) (sym e) ∙ z .3));
-      complete = λ t a h x. g .complete t t (x .1) (refl, (a, h, x .0, x .2));
     }

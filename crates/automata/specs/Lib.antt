@@ -2,3 +2,4 @@
 pub mod Machine
 pub mod StateSets
 pub mod Walk
+pub mod Kinds

@@ -1,12 +1,23 @@
 // An automaton in its bytes: the state count q, four bytes of accepting states, then for each of the q states a row of k bytes, the next state for each
 // symbol. A set of states is a `u32`, bit p for state p; states and symbols are `usize`. `next` alone follows a move; `walk` goes from automaton to automaton.
+// `columns` finds the symbols by which every state moves alike, and `targets` keeps what the states move to by the symbols of one word.
 //
-// `successors`, `predecessors` and `leads` go through the set bits of a word alone, the lowest first: most places allow few symbols, and most sets have few
+// `successors`, `entering` and `leads` go through the set bits of a word alone, the lowest first: most places allow few symbols, and most sets have few
 // states.
 //
 // Assumes nothing. `requires` asks what refusals 3 and 5 leave: at most 64 symbols, and an automaton's whole bytes.
+mod columns;
+mod targets;
 mod walk;
 
+pub use columns::all_of;
+pub use columns::firsts;
+pub use columns::kinds;
+pub use columns::separate;
+pub use targets::Entrants;
+pub use targets::forget;
+pub use targets::steps_back;
+pub use targets::steps_to;
 pub use walk::all_whole;
 pub use walk::start;
 ghost use mathlib.Core.Path.{_≡_};
@@ -15,7 +26,7 @@ ghost use lib.ListN.{length};
 ghost use Rattle.model.specs.Constraints.{move};
 ghost use Rattle.model.specs.Layout.{little, part};
 ghost use Rattle.automata.specs.Machine.{stateCount, machine, Whole};
-ghost use Rattle.automata.specs.StateSets.{LowBits, Moves, Enters, Leads, Successors, Predecessors};
+ghost use Rattle.automata.specs.StateSets.{LowBits, Moves, Enters, Leads, Successors, Entering};
 
 // How many states there are.
 pub fn states(d: &[u8]) -> usize
@@ -122,19 +133,19 @@ pub fn successors(d: &[u8], k: usize, set: u32, symbols: u64) -> u32
     r
 }
 
-// The states that move into the set by some symbol of the word. Any state may, so that all are asked.
-pub fn predecessors(d: &[u8], k: usize, set: u32, symbols: u64) -> u32
+// The states of the first set that move into the second by some symbol of the word.
+pub fn entering(d: &[u8], k: usize, from: u32, into: u32, symbols: u64) -> u32
     requires { ⌜ (k ≤ 64) × Whole k (now d) ⌝ }
-    ensures { λ r. ⌜ Predecessors (machine k (now (d .entry))) (stateCount (now (d .entry))) k set symbols r ⌝ }
+    ensures { λ r. ⌜ Entering (machine k (now (d .entry))) (stateCount (now (d .entry))) k from into symbols r ⌝ }
 {
-    let q = states(d);
-    let mut found: u32 = 0;
-    let mut p: usize = 0;
-    while p < q {
-        if enters(d, k, p, set, symbols) {
-            found = only(p) | found;
+    let mut rest = below(from as u64, states(d));
+    let mut r: u32 = 0;
+    while rest != 0 {
+        let p = words::lowest(rest);
+        if enters(d, k, p, into, symbols) {
+            r = only(p) | r;
         }
-        p += 1;
+        rest -= words::singleton(p);
     }
-    found
+    r
 }

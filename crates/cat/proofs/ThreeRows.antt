@@ -39,12 +39,29 @@ three-narrowed c test vs same x y z lx ly lz bx bY bz rx ry rz s =
     (elim [ zero ↦ λ h. bx | suc a ↦ elim a [ zero ↦ λ h. bY | suc b ↦ elim b [ zero ↦ λ h. bz | suc d ↦ λ h. absurd (omega arith) ] ] ]) no-words
     (Met test x y z) triple (λ α. record { first = α .text 0; second = α .text 1; third = α .text 2 })
     (λ v m. record {
-      texts = elim [ zero ↦ λ h. m .in-first | suc a ↦ elim a [ zero ↦ λ h. m .in-second | suc b ↦ elim b [ zero ↦ λ h. m .in-third | suc d ↦ λ h. absurd (omega arith) ] ] ];
+      texts = elim [
+        | zero ↦ λ h. m .in-first
+        | suc a ↦ elim a [
+          | zero ↦ λ h. m .in-second
+          | suc b ↦ elim b
+              [ zero ↦ λ h. m .in-third | suc d ↦ λ h. absurd (omega arith) ]
+        ]
+      ];
       values = λ n h. absurd (omega arith);
       meeting = same (triple v) ∙ m .meeting;
     })
-    (λ α t. record { in-first = t .texts 0 (omega arith); in-second = t .texts 1 (omega arith); in-third = t .texts 2 (omega arith); meeting = sym (same α) ∙ t .meeting })
-    (λ α t. elim [ zero ↦ λ h. refl | suc a ↦ elim a [ zero ↦ λ h. refl | suc b ↦ elim b [ zero ↦ λ h. refl | suc d ↦ λ h. absurd (omega arith) ] ] ]) (λ α t n h. absurd (omega arith))
+    (λ α t. record {
+      in-first = t .texts 0 (omega arith);
+      in-second = t .texts 1 (omega arith);
+      in-third = t .texts 2 (omega arith);
+      meeting = sym (same α)
+          ∙ t .meeting;
+    })
+    (λ α t. elim [ zero ↦ λ h. refl | suc a ↦ elim a [ zero ↦ λ h. refl | suc b ↦ elim b [ zero ↦ λ h. refl | suc d ↦ λ h. absurd (omega arith) ] ] ])
+    (λ α t n h. absurd (omega arith))
     (rx ∷ ry ∷ rz ∷ []) [] refl refl
-    (elim [ zero ↦ λ h. s .firsts | suc a ↦ elim a [ zero ↦ λ h. s .seconds | suc b ↦ elim b [ zero ↦ λ h. s .thirds | suc d ↦ λ h. absurd (omega arith) ] ] ]) (λ n h. absurd (omega arith))
+    (elim [
+      | zero ↦ λ h. s .firsts
+      | suc a ↦ elim a [ zero ↦ λ h. s .seconds | suc b ↦ elim b [ zero ↦ λ h. s .thirds | suc d ↦ λ h. absurd (omega arith) ] ]
+    ]) (λ n h. absurd (omega arith))
     ∙ ap (λ (l : List ℕ). narrowed (alone 3 0 []) c (x ++ (y ++ l))) (append-nil z)

@@ -1,2 +1,4 @@
 -- The definitions that the contracts of `cat` cite.
 pub mod Splits
+pub mod Strings
+pub mod Gathering

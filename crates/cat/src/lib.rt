@@ -1,92 +1,139 @@
 // Cat(X, Y, Z): Z is X followed by Y.
 //
-// Assumes nothing, and requires nothing of its rows. A step is a union over the lengths p of X.
+// Assumes nothing. A step requires that the three strings it names are different and tidy. Where X has one length, places meet in the table itself; where it
+// has several, the choices of each length are gathered in three rows beside the table, which are then written where they differ.
 ghost use mathlib.Core.Path.{_≡_};
-ghost use mathlib.Core.Bool.{true};
-ghost use mathlib.Core.List.{[], _++_};
-ghost use Prim.Native.Nat.{_<_};
-ghost use lib.ListN.{replicate};
-ghost use Rattle.model.specs.Words.{bit, word};
+ghost use mathlib.Core.List.{[], _∷_};
+ghost use Prim.Native.Nat.{_<_, _≤_, _+_, _*_};
+ghost use lib.ListN.{length};
 ghost use Rattle.model.specs.Constraints.{cat};
-ghost use Rattle.model.specs.Support.{narrowed};
-ghost use Rattle.rows.specs.Rows.{alone, joined};
-ghost use Rattle.cat.specs.Splits.{Whole, Split, Supported};
+ghost use Rattle.inplace.specs.InPlace.{InPlace};
+ghost use Rattle.cat.specs.Strings.{Strings, Decided};
+ghost use Rattle.cat.specs.Gathering.{Added, Lengthened, Gathered, Complete, Advanced};
 
-// The rows of X, Y and Z.
-pub struct Rows {
-    pub x: [u64; 64],
-    pub y: [u64; 64],
-    pub z: [u64; 64],
-}
-
-// The rows that allow nothing.
-fn nothing() -> Rows
-    ensures { λ r. ⌜ (r .x ≡ replicate 64 0) × (r .y ≡ replicate 64 0) × (r .z ≡ replicate 64 0) ⌝ }
+// The step where X has p symbols: its places are met with Z's first ones, and Y's with those after them.
+fn decided(t: &mut [u64], x: usize, y: usize, z: usize, p: usize) -> inplace::Change
+    requires { ⌜ Decided (now t) x y z p ⌝ }
+    ensures { λ r. ⌜ InPlace [] (cat 0 1 2) (x ∷ y ∷ z ∷ []) [] (now (t .entry)) (now (t .exit)) r ⌝ }
 {
-    let n = [0u64; 64];
-    Rows { x: n, y: n, z: n }
-}
-
-// Row by row, what either allows.
-fn union(a: Rows, b: Rows) -> Rows
-    ensures { λ r. ⌜ (r .x ≡ joined (a .x) (b .x)) × (r .y ≡ joined (a .y) (b .y)) × (r .z ≡ joined (a .z) (b .z)) ⌝ }
-{
-    let ax = a.x;
-    let bx = b.x;
-    let ay = a.y;
-    let by = b.y;
-    let az = a.z;
-    let bz = b.z;
-    let x = rows::join(ax, bx);
-    let y = rows::join(ay, by);
-    let z = rows::join(az, bz);
-    Rows { x, y, z }
-}
-
-// The row of Z with these lengths, its first p places met with X's, and the others with Y's from the first on.
-fn whole(x: [u64; 64], y: [u64; 64], z: [u64; 64], lengths: u64, p: usize) -> [u64; 64]
-    requires { ⌜ p < 64 ⌝ }
-    ensures { λ r. ⌜ Whole x y z lengths p r ⌝ }
-{
-    let begun = rows::overlay(z, x, 0, p);
-    let mut r = rows::overlay(begun, y, p, 63 - p);
-    r[0] = lengths;
-    r
-}
-
-// What the choices with an X of p symbols use, a length that X allows. One row holds them for all lengths of Y, which count from p on; lengths and symbols
-// of all three strings come from it.
-fn split(x: [u64; 64], y: [u64; 64], z: [u64; 64], p: usize) -> Rows
-    requires { ⌜ (p < 64) × (bit (word x 0) p ≡ true) ⌝ }
-    ensures { λ r. ⌜ Supported (Split x y z p) (r .x) (r .y) (r .z) ⌝ }
-{
-    let lengths = ((z[0] >> p) & y[0]) << p;
-    let t = rows::trim(whole(x, y, z, lengths, p));
-    if t[0] == 0 {
-        return nothing();
+    let lengths = (t[64 * z] >> p) & t[64 * y];
+    if lengths == 0 {
+        return inplace::nothing();
     }
-    let begin = rows::window(t, words::singleton(p), 0, p);
-    let rest = rows::window(t, t[0] >> p, p, 63 - p);
-    Rows {
-        x: begin,
-        y: rest,
-        z: t,
+    let u = inplace::meet(t, 64 * z, 64 * x, p);
+    if u.m < p {
+        return inplace::nothing();
+    }
+    let v = inplace::meet(t, 64 * z + p, 64 * y, words::highest(lengths));
+    let kept = lengths & words::low_mask(v.m);
+    if kept == 0 {
+        return inplace::nothing();
+    }
+    let f = inplace::shorten(t, y, kept);
+    let g = inplace::shorten(t, z, kept << p);
+    inplace::Change {
+        left: true,
+        x: u.y,
+        y: inplace::either(v.y, f),
+        z: inplace::either(inplace::either(u.x, v.x), g),
     }
 }
 
-// One narrowing step: the splits at every length of X.
-pub fn narrow(x: [u64; 64], y: [u64; 64], z: [u64; 64]) -> Rows
-    ensures { λ r. ⌜ r .x ++ (r .y ++ r .z) ≡ narrowed (alone 3 0 []) (cat 0 1 2) (x ++ (y ++ z)) ⌝ }
+// Adds what lim places after a and after b both allow to the places of r after c and to those after d.
+fn add(r: &mut [u64], c: usize, d: usize, t: &[u64], a: usize, b: usize, lim: usize)
+    requires { ⌜ (c + lim ≤ d) × (d + lim < length (now r)) × (a + lim < length (now t)) × (b + lim < length (now t)) ⌝ }
+    ensures { λ u. ⌜ Added (now (r .entry)) c d (now (t .entry)) a b lim (now (r .exit)) ⌝ }
 {
-    let lengths = x[0];
-    let mut r = nothing();
-    let mut p: usize = 0;
-    while p < 64 {
-        if words::has(lengths, p) {
-            let a = split(x, y, z, p);
-            r = union(a, r);
-        }
-        p += 1;
+    let mut i: usize = 0;
+    while i < lim {
+        let w = t[a + i + 1] & t[b + i + 1];
+        r[c + i + 1] = w | r[c + i + 1];
+        r[d + i + 1] = w | r[d + i + 1];
+        i += 1;
     }
-    r
+}
+
+// Adds lengths to the three rows.
+fn lengthen(r: &mut [u64], x: u64, y: u64, z: u64)
+    requires { ⌜ length (now r) ≡ 192 ⌝ }
+    ensures { λ u. ⌜ Lengthened (now (r .entry)) x y z (now (r .exit)) ⌝ }
+{
+    r[0] = x | r[0];
+    r[64] = y | r[64];
+    r[128] = z | r[128];
+}
+
+// Gathers the choices in which X has p symbols, and gives the greatest length of X so far that has some. The places up to the last such length before p are
+// gathered already, in X's row and in Z's: lengths come in their order, and what X and Z both allow there is the same for each of them.
+fn split(t: &[u64], x: usize, y: usize, z: usize, last: usize, p: usize, r: &mut [u64]) -> usize
+    requires { ⌜ Strings (now t) x y z × (last ≤ p) × (p < 64) × (length (now r) ≡ 192) ⌝ }
+    ensures { λ n. ⌜ Advanced (now (t .entry)) x y z last p (now (r .entry)) n (now (r .exit)) ⌝ }
+{
+    let a = 64 * z + p;
+    let b = 64 * y;
+    let lengths = (t[64 * z] >> p) & t[b];
+    if lengths == 0 {
+        return last;
+    }
+    let kept = lengths & words::low_mask(inplace::meets(t, a, b, words::highest(lengths)));
+    if kept == 0 {
+        return last;
+    }
+    let top = words::highest(kept);
+    let from_z = 64 * z + last;
+    let from_x = 64 * x + last;
+    lengthen(r, words::singleton(p), kept, kept << p);
+    add(r, last, 128 + last, t, from_z, from_x, p - last);
+    add(r, 64, 128 + p, t, a, b, top);
+    p
+}
+
+// Gathers the choices of every length of X that is given.
+fn gather(t: &[u64], x: usize, y: usize, z: usize, lengths: u64, r: &mut [u64])
+    requires { ⌜ Strings (now t) x y z × Gathered (now t) x y z lengths 0 (now r) ⌝ }
+    ensures { λ u. ⌜ Complete (now (t .entry)) x y z (now (r .exit)) ⌝ }
+{
+    let mut rest = lengths;
+    let mut last: usize = 0;
+    while rest != 0 {
+        let p = words::lowest(rest);
+        last = split(t, x, y, z, last, p, r);
+        rest -= words::singleton(p);
+    }
+}
+
+// The step where X has several lengths, of which those count up to which places of X and Z meet.
+fn undecided(t: &mut [u64], x: usize, y: usize, z: usize) -> inplace::Change
+    requires { ⌜ Strings (now t) x y z ⌝ }
+    ensures { λ r. ⌜ InPlace [] (cat 0 1 2) (x ∷ y ∷ z ∷ []) [] (now (t .entry)) (now (t .exit)) r ⌝ }
+{
+    let lengths = t[64 * x];
+    let seen = inplace::meets(t, 64 * z, 64 * x, words::highest(lengths));
+    let mut r = [0u64; 192];
+    gather(t, x, y, z, lengths & words::low_mask(seen), &mut r);
+    if r[0] == 0 {
+        return inplace::nothing();
+    }
+    let f = inplace::replace(t, x, &r, 0);
+    let g = inplace::replace(t, y, &r, 1);
+    let h = inplace::replace(t, z, &r, 2);
+    inplace::Change {
+        left: true,
+        x: f,
+        y: g,
+        z: h,
+    }
+}
+
+// One narrowing step.
+pub fn narrow(t: &mut [u64], x: usize, y: usize, z: usize) -> inplace::Change
+    requires { ⌜ Strings (now t) x y z ⌝ }
+    ensures { λ r. ⌜ InPlace [] (cat 0 1 2) (x ∷ y ∷ z ∷ []) [] (now (t .entry)) (now (t .exit)) r ⌝ }
+{
+    let lengths = t[64 * x];
+    let p = words::highest(lengths);
+    if lengths == words::singleton(p) {
+        return decided(t, x, y, z, p);
+    }
+    undecided(t, x, y, z)
 }

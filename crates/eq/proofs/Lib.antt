@@ -1,2 +1,3 @@
--- The law of Eq.
+-- The laws of Eq.
 pub mod EqLaws
+pub mod EqSteps

@@ -1,8 +1,8 @@
 -- The variables that each kind of record names, and what a function that looks at the kind may take from that. Assumes nothing.
 use mathlib.Core.Path.{_≡_, refl, sym, ap, subst, _∙_}
-use mathlib.Core.Logic.{_≢_}
+use mathlib.Core.Bool.{Bool, true, false, false≢true}
 use mathlib.Core.List.{List, [], _∷_, map, List·Memᴰ·head, List·Memᴰ·tail}
-use Prim.Native.Nat.{ℕ, zero, suc, _≤_, _<_}
+use Prim.Native.Nat.{ℕ, _≤_, _<_}
 use native.Mathlib.Omega.{arith}
 use lib.Bits.{bitOr, or-zero-r, or-zero-l}
 use Rattle.model.specs.Words.{word, union}
@@ -10,13 +10,13 @@ use Rattle.model.specs.Domains.{Variable, str, num}
 use Rattle.model.specs.Constraints.{Problem, variables}
 use Rattle.model.specs.Solutions.{InRange, WellFormed}
 use Rattle.laws.specs.Inclusion.{In}
-use Rattle.steps.specs.declared.Struck.{Struck}
+use Rattle.inplace.specs.declared.Change.{Change}
 use Rattle.records.specs.declared.Record.{Record}
 use Rattle.records.specs.declared.Record.the-variants.{Eq, Neq, Rev, Cat, Sub, Len, Regular}
 use Rattle.records.specs.Records.{constraintOf}
 use Rattle.index.specs.Index.{position}
 use Rattle.index.specs.Joining.{named, positions, Fits, Joined}
-use Rattle.index.specs.Waking.{changed, ifStruck}
+use Rattle.index.specs.Waking.{moved, ifChanged}
 
 -- ---- the kinds
 
@@ -94,55 +94,52 @@ module _ (s : ℕ) {r : Record} {vs : List Variable} (e : Names r vs) where
   pub joined-named : {b : ℕ} {ix jx : List ℕ} → Joined (map (position s) vs) b ix jx → Joined (positions s r) b ix jx
   joined-named {b} {ix} {jx} j = subst (λ (us : List Variable). Joined (map (position s) us) b ix jx) (sym (e .are)) j
 
-pub first-named : {r : Record} {x : ℕ} {vs : List Variable} → Names r (str x ∷ vs) → In (str x) (variables (constraintOf r))
-first-named {r} {x} e = subst (In (str x)) (sym (e .are)) (List·Memᴰ·head refl)
+-- ---- the bits of the words of the variables that changed
 
--- ---- the bits of the words of the variables that lost bits
+pub changed-none : (t : Bool) (w : ℕ) → t ≡ false → 0 ≡ ifChanged t w
+unfolding ifChanged
+changed-none true w e = absurd (false≢true (sym e))
+changed-none false w e = refl
 
-pub struck-none : (n w : ℕ) → n ≡ 0 → 0 ≡ ifStruck n w
-unfolding ifStruck
-struck-none zero w e = refl
-struck-none (suc n) w e = absurd (omega arith)
+pub changed-some : (t : Bool) (w : ℕ) → t ≡ true → w ≡ ifChanged t w
+unfolding ifChanged
+changed-some true w e = refl
+changed-some false w e = absurd (false≢true e)
 
-pub struck-some : (n w : ℕ) → n ≢ 0 → w ≡ ifStruck n w
-unfolding ifStruck
-struck-some zero w h = absurd (h refl)
-struck-some (suc n) w h = refl
+union-next : (f : Variable → ℕ) (v : Variable) (vs : List Variable) (t : Bool) (ts : List Bool)
+    → bitOr (ifChanged t (f v)) (union (map f (moved vs ts))) ≡ union (map f (moved (v ∷ vs) (t ∷ ts)))
+unfolding union moved ifChanged
+union-next f v vs true ts = refl
+union-next f v vs false ts = or-zero-l _
 
-union-next : (f : Variable → ℕ) (v : Variable) (vs : List Variable) (n : ℕ) (ns : List ℕ)
-    → bitOr (ifStruck n (f v)) (union (map f (changed vs ns))) ≡ union (map f (changed (v ∷ vs) (n ∷ ns)))
-unfolding union changed ifStruck
-union-next f v vs zero ns = or-zero-l _
-union-next f v vs (suc n) ns = refl
-
-union-last : (f : Variable → ℕ) (v : Variable) (n : ℕ) (ns : List ℕ) → ifStruck n (f v) ≡ union (map f (changed (v ∷ []) (n ∷ ns)))
-unfolding union changed
-union-last f v n ns = sym (or-zero-r (ifStruck n (f v))) ∙ union-next f v [] n ns
+union-last : (f : Variable → ℕ) (v : Variable) (t : Bool) (ts : List Bool) → ifChanged t (f v) ≡ union (map f (moved (v ∷ []) (t ∷ ts)))
+unfolding union moved
+union-last f v t ts = sym (or-zero-r (ifChanged t (f v))) ∙ union-next f v [] t ts
 
 -- for a record of one variable, of two, of three
 module _ (s : ℕ) (ix : List ℕ) where
   abbrev f : Variable → ℕ
   f v = word ix (position s v)
 
-  module _ (n : Struck) {r : Record} {a : ℕ} where
-    union-named : {vs : List Variable} → Names r vs → a ≡ union (map f (changed vs (n .x ∷ n .y ∷ n .z ∷ [])))
-        → a ≡ union (map f (changed (variables (constraintOf r)) (n .x ∷ n .y ∷ n .z ∷ [])))
-    union-named e q = q ∙ ap (λ (us : List Variable). union (map f (changed us (n .x ∷ n .y ∷ n .z ∷ [])))) (sym (e .are))
+  module _ (n : Change) {r : Record} {a : ℕ} where
+    union-named : {vs : List Variable} → Names r vs → a ≡ union (map f (moved vs (n .x ∷ n .y ∷ n .z ∷ [])))
+        → a ≡ union (map f (moved (variables (constraintOf r)) (n .x ∷ n .y ∷ n .z ∷ [])))
+    union-named e q = q ∙ ap (λ (us : List Variable). union (map f (moved us (n .x ∷ n .y ∷ n .z ∷ [])))) (sym (e .are))
 
-    pub union-one : {v : Variable} → Names r (v ∷ []) → a ≡ ifStruck (n .x) (f v)
-        → a ≡ union (map f (changed (variables (constraintOf r)) (n .x ∷ n .y ∷ n .z ∷ [])))
+    pub union-one : {v : Variable} → Names r (v ∷ []) → a ≡ ifChanged (n .x) (f v)
+        → a ≡ union (map f (moved (variables (constraintOf r)) (n .x ∷ n .y ∷ n .z ∷ [])))
     union-one {v} e q = union-named e (q ∙ union-last f v (n .x) (n .y ∷ n .z ∷ []))
 
-    pub union-two : {v w : Variable} → Names r (v ∷ w ∷ []) → a ≡ bitOr (ifStruck (n .x) (f v)) (ifStruck (n .y) (f w))
-        → a ≡ union (map f (changed (variables (constraintOf r)) (n .x ∷ n .y ∷ n .z ∷ [])))
+    pub union-two : {v w : Variable} → Names r (v ∷ w ∷ []) → a ≡ bitOr (ifChanged (n .x) (f v)) (ifChanged (n .y) (f w))
+        → a ≡ union (map f (moved (variables (constraintOf r)) (n .x ∷ n .y ∷ n .z ∷ [])))
     union-two {v} {w} e q =
         union-named e
-        (q ∙ ap (bitOr (ifStruck (n .x) (f v))) (union-last f w (n .y) (n .z ∷ [])) ∙ union-next f v (w ∷ []) (n .x) (n .y ∷ n .z ∷ []))
+        (q ∙ ap (bitOr (ifChanged (n .x) (f v))) (union-last f w (n .y) (n .z ∷ [])) ∙ union-next f v (w ∷ []) (n .x) (n .y ∷ n .z ∷ []))
 
     pub union-three : {v w u : Variable} → Names r (v ∷ w ∷ u ∷ [])
-        → a ≡ bitOr (ifStruck (n .x) (f v)) (bitOr (ifStruck (n .y) (f w)) (ifStruck (n .z) (f u)))
-        → a ≡ union (map f (changed (variables (constraintOf r)) (n .x ∷ n .y ∷ n .z ∷ [])))
+        → a ≡ bitOr (ifChanged (n .x) (f v)) (bitOr (ifChanged (n .y) (f w)) (ifChanged (n .z) (f u)))
+        → a ≡ union (map f (moved (variables (constraintOf r)) (n .x ∷ n .y ∷ n .z ∷ [])))
     union-three {v} {w} {u} e q =
         let last = union-last f u (n .z) [] in
-        let next = ap (bitOr (ifStruck (n .y) (f w))) last ∙ union-next f w (u ∷ []) (n .y) (n .z ∷ []) in
-        union-named e (q ∙ ap (bitOr (ifStruck (n .x) (f v))) next ∙ union-next f v (w ∷ u ∷ []) (n .x) (n .y ∷ n .z ∷ []))
+        let next = ap (bitOr (ifChanged (n .y) (f w))) last ∙ union-next f w (u ∷ []) (n .y) (n .z ∷ []) in
+        union-named e (q ∙ ap (bitOr (ifChanged (n .x) (f v))) next ∙ union-next f v (w ∷ u ∷ []) (n .x) (n .y ∷ n .z ∷ []))

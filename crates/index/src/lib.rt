@@ -7,14 +7,13 @@ ghost use Prim.Native.Nat.{_+_, _*_, _<_, _≤_};
 ghost use lib.Bits.{bitOr};
 ghost use lib.ListN.{length};
 ghost use Rattle.model.specs.Words.{word, union};
-ghost use Rattle.model.specs.Domains.{str, owner};
+ghost use Rattle.model.specs.Domains.{owner};
 ghost use Rattle.model.specs.Constraints.{variables};
-ghost use Rattle.laws.specs.Inclusion.{In};
 ghost use Rattle.records.specs.Records.{constraintOf};
 ghost use Rattle.format.specs.Accepting.{problemIn, Usable};
 ghost use Rattle.index.specs.Index.{position, Index};
 ghost use Rattle.index.specs.Joining.{positions, Fits, Joined};
-ghost use Rattle.index.specs.Waking.{changed, ifStruck};
+ghost use Rattle.index.specs.Waking.{moved, ifChanged};
 
 // The index with the bits of b joined into word i.
 fn with(ix: [u64; 32], i: usize, b: u64) -> [u64; 32]
@@ -88,39 +87,39 @@ pub fn touching(ix: &[u64], s: usize, at: usize) -> u64
     ix[s + (at - 64 * s)]
 }
 
-// The bits of word i, whose variable lost n bits: none where it lost none.
-fn if_struck(ix: &[u64], i: usize, n: u32) -> u64
+// The bits of word i, where its variable changed.
+fn if_changed(ix: &[u64], i: usize, changed: bool) -> u64
     requires { ⌜ (length (now ix) ≡ 32) × (i < 32) ⌝ }
-    ensures { λ w. ⌜ w ≡ ifStruck n (word (now (ix .entry)) i) ⌝ }
+    ensures { λ w. ⌜ w ≡ ifChanged changed (word (now (ix .entry)) i) ⌝ }
 {
-    if n == 0 {
-        return 0;
+    if changed {
+        return ix[i];
     }
-    ix[i]
+    0
 }
 
 // The same for the words of the first two arguments of a step.
-fn two(ix: &[u64], i: usize, j: usize, n: steps::Struck) -> u64
+fn two(ix: &[u64], i: usize, j: usize, n: inplace::Change) -> u64
     requires { ⌜ (length (now ix) ≡ 32) × (i < 32) × (j < 32) ⌝ }
-    ensures { λ w. ⌜ w ≡ bitOr (ifStruck (n .x) (word (now (ix .entry)) i)) (ifStruck (n .y) (word (now (ix .entry)) j)) ⌝ }
+    ensures { λ w. ⌜ w ≡ bitOr (ifChanged (n .x) (word (now (ix .entry)) i)) (ifChanged (n .y) (word (now (ix .entry)) j)) ⌝ }
 {
-    if_struck(ix, i, n.x) | if_struck(ix, j, n.y)
+    if_changed(ix, i, n.x) | if_changed(ix, j, n.y)
 }
 
 // The same for those of all three.
-fn three(ix: &[u64], i: usize, j: usize, k: usize, n: steps::Struck) -> u64
+fn three(ix: &[u64], i: usize, j: usize, k: usize, n: inplace::Change) -> u64
     requires { ⌜ (length (now ix) ≡ 32) × (i < 32) × (j < 32) × (k < 32) ⌝ }
-    ensures { λ w. ⌜ w ≡ bitOr (ifStruck (n .x) (word (now (ix .entry)) i))
-        (bitOr (ifStruck (n .y) (word (now (ix .entry)) j)) (ifStruck (n .z) (word (now (ix .entry)) k))) ⌝ }
+    ensures { λ w. ⌜ w ≡ bitOr (ifChanged (n .x) (word (now (ix .entry)) i))
+        (bitOr (ifChanged (n .y) (word (now (ix .entry)) j)) (ifChanged (n .z) (word (now (ix .entry)) k))) ⌝ }
 {
-    if_struck(ix, i, n.x) | (if_struck(ix, j, n.y) | if_struck(ix, k, n.z))
+    if_changed(ix, i, n.x) | (if_changed(ix, j, n.y) | if_changed(ix, k, n.z))
 }
 
-// The constraints that name a variable of r that lost bits, r among them where it is one of the file's and lost any. The others have every word of theirs as it
-// was, so the step of r gives them nothing to do.
-pub fn waking(ix: &[u64], s: usize, r: records::Record, n: steps::Struck) -> u64
+// The constraints that name a variable of r that changed, r among them where it is one of the file's and one did. The others have every word of theirs as it was,
+// so the step of r gives them nothing to do.
+pub fn waking(ix: &[u64], s: usize, r: records::Record, n: inplace::Change) -> u64
     requires { ⌜ (length (now ix) ≡ 32) × (s ≤ 16) × Fits s r ⌝ }
-    ensures { λ w. ⌜ w ≡ union (map (λ v. word (now (ix .entry)) (position s v)) (changed (variables (constraintOf r)) (n .x ∷ n .y ∷ n .z ∷ []))) ⌝ }
+    ensures { λ w. ⌜ w ≡ union (map (λ v. word (now (ix .entry)) (position s v)) (moved (variables (constraintOf r)) (n .x ∷ n .y ∷ n .z ∷ []))) ⌝ }
 {
     match r {
         records::Record::Eq(x, y) => two(ix, x as usize, y as usize, n),
@@ -129,21 +128,6 @@ pub fn waking(ix: &[u64], s: usize, r: records::Record, n: steps::Struck) -> u64
         records::Record::Cat(x, y, z) => three(ix, x as usize, y as usize, z as usize, n),
         records::Record::Sub(x, y, m) => three(ix, x as usize, y as usize, s + m as usize, n),
         records::Record::Len(x, m) => two(ix, x as usize, s + m as usize, n),
-        records::Record::Regular(x, _) => if_struck(ix, x as usize, n.x),
-    }
-}
-
-// The first string that r names: every kind's first argument.
-pub fn first(r: records::Record) -> usize
-    ensures { λ x. ⌜ In (str x) (variables (constraintOf r)) ⌝ }
-{
-    match r {
-        records::Record::Eq(x, _) => x as usize,
-        records::Record::Neq(x, _) => x as usize,
-        records::Record::Rev(x, _) => x as usize,
-        records::Record::Cat(x, _, _) => x as usize,
-        records::Record::Sub(x, _, _) => x as usize,
-        records::Record::Len(x, _) => x as usize,
-        records::Record::Regular(x, _) => x as usize,
+        records::Record::Regular(x, _) => if_changed(ix, x as usize, n.x),
     }
 }

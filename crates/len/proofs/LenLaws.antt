@@ -3,18 +3,17 @@
 use mathlib.Core.Path.{_≡_, refl, sym, ap, subst, _∙_}
 use mathlib.Core.Bool.{true}
 use mathlib.Core.List.{List, [], _∷_, _++_}
-use Prim.Native.Nat.{ℕ, zero, suc, _+_, _^_, _<_, _*_}
+use Prim.Native.Nat.{ℕ, zero, suc, _^_, _<_}
 use native.Mathlib.Omega.{arith}
 use lib.Bits.{bitAnd}
 use lib.ListN.{length, getD, set, length-set}
 use lib.Seq.{getD-set-same, getD-set-other}
 use borrow.Author.Tests.{eqb-true, eq-eqb}
 use Rattle.model.specs.Words.{bit, word, Words}
-use Rattle.model.specs.Domains.{row}
-use Rattle.model.specs.Constraints.{Choice, len, variables, meets, Problem, width}
+use Rattle.model.specs.Constraints.{Choice, len, variables, meets}
 use Rattle.model.specs.Solutions.{textBit}
 use Rattle.model.specs.Support.{narrowed}
-use Rattle.rows.specs.Rows.{alone, trimmed, stored}
+use Rattle.rows.specs.Rows.{alone, trimmed}
 use Rattle.rows.proofs.TrimLaws.{trimmed-supports}
 use Rattle.rows.proofs.MeetLaws.{and-bit, of-and-bit}
 use Rattle.rows.proofs.Alone.{rows-narrowed, one-word}
@@ -24,8 +23,6 @@ use Rattle.laws.proofs.RowLaws.{length-pow}
 use Rattle.laws.proofs.Supports.{moved-support, first-word-supports}
 use Rattle.model.specs.Lists.{from, upto}
 use Rattle.model.specs.Rounds.{variablesOf}
-use Rattle.rows.proofs.Placed.{storedAll, setAll, placed}
-use Rattle.rows.proofs.PlacedKinds.{named-kind, one-below, one-distinct}
 
 module _ (x : List ℕ) (n : ℕ) (lx : length x ≡ 64) (bx : Words x) (bn : n < 2 ^ 64) where
   -- ---- the row whose lengths are also values of the number
@@ -75,23 +72,17 @@ module _ (x : List ℕ) (n : ℕ) (lx : length x ≡ 64) (bx : Words x) (bn : n 
 
   pub len-narrowed : left ++ (word left 0 ∷ []) ≡ narrowed (alone 1 1 []) (len 0 0) (x ++ (n ∷ []))
   unfolding variables meets variablesOf alone upto from
-  len-narrowed = rows-narrowed [] (len 0 0) (x ∷ []) (n ∷ []) refl (elim [ zero ↦ λ h. lx | suc z ↦ λ h. absurd (omega arith) ]) (elim [ zero ↦ λ h. bx | suc z ↦ λ h. absurd (omega arith) ])
+  len-narrowed = rows-narrowed [] (len 0 0) (x ∷ []) (n ∷ []) refl (elim [ zero ↦ λ h. lx | suc z ↦ λ h. absurd (omega arith) ])
+      (elim [ zero ↦ λ h. bx | suc z ↦ λ h. absurd (omega arith) ])
       (one-word n (λ b. bit-high n 64 b bn)) (InRow both) measured (λ α. α .text 0)
       (λ w i. record {
         texts = elim [ zero ↦ λ h. of-both w i .0 | suc z ↦ λ h. absurd (omega arith) ];
         values = elim [ zero ↦ λ h. of-both w i .1 | suc z ↦ λ h. absurd (omega arith) ];
         meeting = eq-eqb (length w) (length w) refl;
       })
-      (λ α t. in-both (α .text 0) (t .texts 0 (omega arith)) (subst (λ (b : ℕ). bit n b ≡ true) (eqb-true (α .value 0) (length (α .text 0)) (t .meeting)) (t .values 0 (omega arith))))
+      (λ α t. in-both (α .text 0) (t .texts 0 (omega arith)) (subst (λ (b : ℕ). bit n b ≡ true) (eqb-true (α .value 0) (length (α .text 0)) (t .meeting))
+      (t .values 0 (omega arith))))
       (λ α t. elim [ zero ↦ λ h. refl | suc z ↦ λ h. absurd (omega arith) ])
       (λ α t. elim [ zero ↦ λ h. sym (eqb-true (α .value 0) (length (α .text 0)) (t .meeting)) | suc z ↦ λ h. absurd (omega arith) ])
-      (left ∷ []) (word left 0 ∷ []) refl refl (elim [ zero ↦ λ h. left-supports | suc z ↦ λ h. absurd (omega arith) ]) (elim [ zero ↦ λ h. number-supports | suc z ↦ λ h. absurd (omega arith) ])
-
--- the row and the number that `narrow` gives, put back into a table, make the narrowed table
-pub len-placed : (P : Problem) (x n : ℕ) → x < P .strings → n < P .numbers → (T : List ℕ) → length T ≡ width P → (rx : List ℕ) (w : ℕ) → length rx ≡ 64
-    → rx ++ (w ∷ []) ≡ narrowed (alone 1 1 []) (len 0 0) (row T x ++ (word T (64 * P .strings + n) ∷ [])) → set (stored T x rx) (64 * P .strings + n) w ≡ narrowed P (len x n) T
-unfolding storedAll setAll variablesOf alone upto from variables meets
-len-placed P x n hx hn T ln rx w lx e =
-    placed P (len x n) (len 0 0) [] (x ∷ []) (n ∷ [])
-    (named-kind P (len x n) (len 0 0) [] (x ∷ []) (n ∷ []) refl refl (λ α. refl) (one-below (P .strings) hx) (one-below (P .numbers) hn) (one-distinct x) (one-distinct n))
-    T ln (rx ∷ []) (w ∷ []) refl refl (elim [ zero ↦ λ h. lx | suc z ↦ λ h. absurd (omega arith) ]) e
+      (left ∷ []) (word left 0 ∷ []) refl refl (elim [ zero ↦ λ h. left-supports | suc z ↦ λ h. absurd (omega arith) ])
+      (elim [ zero ↦ λ h. number-supports | suc z ↦ λ h. absurd (omega arith) ])

@@ -1,2 +1,3 @@
--- The law of Len.
+-- The laws of Len.
 pub mod LenLaws
+pub mod LenSteps

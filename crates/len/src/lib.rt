@@ -1,27 +1,29 @@
 // Len(X, N): N is the length of X.
 //
-// Assumes nothing, and requires nothing of its row or its number.
-ghost use mathlib.Core.Path.{_≡_};
-ghost use mathlib.Core.List.{[], _∷_, _++_};
+// Assumes nothing. Requires a string with a tidy row, and a word after it for the number.
+ghost use mathlib.Core.List.{[], _∷_};
+ghost use Prim.Native.Nat.{_<_, _≤_, _+_, _*_};
+ghost use lib.ListN.{length};
+ghost use Rattle.model.specs.Domains.{row};
 ghost use Rattle.model.specs.Constraints.{len};
-ghost use Rattle.model.specs.Support.{narrowed};
-ghost use Rattle.rows.specs.Rows.{alone};
+ghost use Rattle.inplace.specs.InTable.{Tidy};
+ghost use Rattle.inplace.specs.InPlace.{InPlace};
 
-// The row of X and the word of N.
-pub struct Rows {
-    pub x: [u64; 64],
-    pub n: u64,
-}
-
-// One narrowing step: a length of X is a value of N, and the values that stay are the lengths that the trimmed row has.
-pub fn narrow(x: [u64; 64], n: u64) -> Rows
-    ensures { λ r. ⌜ r .x ++ (r .n ∷ []) ≡ narrowed (alone 1 1 []) (len 0 0) (x ++ (n ∷ [])) ⌝ }
+// One narrowing step, where N has word i: a length of X is a value of N. Of a tidy row each length has a string, so both words become what both allow.
+pub fn narrow(t: &mut [u64], x: usize, i: usize) -> inplace::Change
+    requires { ⌜ (64 * x + 64 ≤ i) × (i < length (now t)) × Tidy (row (now t) x) ⌝ }
+    ensures { λ r. ⌜ InPlace [] (len 0 0) (x ∷ []) (i ∷ []) (now (t .entry)) (now (t .exit)) r ⌝ }
 {
-    let mut both = x;
-    both[0] = x[0] & n;
-    let left = rows::trim(both);
-    Rows {
-        x: left,
-        n: left[0],
+    let lengths = t[64 * x] & t[i];
+    if lengths == 0 {
+        return inplace::nothing();
+    }
+    let fewer = inplace::put(t, i, lengths);
+    let shorter = inplace::shorten(t, x, lengths);
+    inplace::Change {
+        left: true,
+        x: shorter,
+        y: fewer,
+        z: false,
     }
 }

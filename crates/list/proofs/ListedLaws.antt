@@ -10,12 +10,13 @@ use lib.ListN.{length, getD}
 use borrow.Author.Tests.{lt-ltb, le-ltb}
 use Rattle.model.specs.Constraints as model
 use Rattle.model.specs.Constraints.{Problem, always, width}
+use Rattle.model.specs.Support.{narrowed}
+use Rattle.model.specs.Rounds.{run}
 use Rattle.model.specs.Reading.{decode}
 use Rattle.model.specs.Operations.{stepAt}
 use Rattle.laws.specs.Inclusion.{In}
 use Rattle.laws.specs.Lent.{lendable}
 use Rattle.laws.proofs.ListLaws.{getD-in}
-use Rattle.laws.proofs.TableLaws.{size-most}
 use Rattle.laws.proofs.CallLaws.{lendable-length}
 use Rattle.layout.specs.declared.Parts.{Parts}
 use Rattle.records.specs.declared.Record.{Record}
@@ -24,11 +25,9 @@ use Rattle.records.specs.declared.Decoded.the-variants.{Constraint as One, NotO
 use Rattle.records.specs.Records.{constraintOf, decodedOf}
 use Rattle.format.specs.Accepting.{problemIn, Usable}
 use Rattle.format.proofs.ContentLaws.{usable-counts}
-use Rattle.steps.specs.declared.Struck.{Struck}
-use Rattle.steps.specs.Step.{Step, Steps}
-use Rattle.steps.proofs.CountLaws.{struck-short}
+use Rattle.steps.specs.Step.{Step}
 use Rattle.list.specs.declared.Constraint.{Constraint}
-use Rattle.list.specs.Listed.{meaning, blank, OfFile, Listed, Ran}
+use Rattle.list.specs.Listed.{meaning, blank, OfFile, Listed}
 use Rattle.list.proofs.StepWalkLaws.{Walked, walk-start, walk-step, walk-lent, walk-ran}
 
 module _ (file : List ℕ) (p : Parts) (T : List ℕ) where
@@ -55,35 +54,29 @@ module _ (file : List ℕ) (p : Parts) (T : List ℕ) where
           let same : constraintOf r ≡ pre .2 .is = Option·some-injective _ _ (sym (ap decodedOf q) ∙ decoded) in
           (pre .0, pre .1, subst (λ (d : model.Constraint). In d (P .constraints)) (sym same) (pre .2 .there))
 
-      -- what all arguments lost fits a `u32`
-      pub few-lost : {U : List ℕ} {n : Struck} → Steps P (constraintOf r) T U n → n .x + n .y + n .z < 4294967296
-      few-lost {U} s = omega (arith, s .count, struck-short T U, lendable-length P T (pre .1), usable-counts file p (pre .0) .most-words)
-
-      pub meant-step : {U : List ℕ} {n : Struck} → Steps P (constraintOf r) T U n → (d : model.Constraint) → meaning p c ≡ some d → Step P d T U (n .x + n .y + n .z)
+      means : (d : model.Constraint) → meaning p c ≡ some d → constraintOf r ≡ d
       unfolding decodedOf meaning
-      meant-step {U} {n} s d m =
-          subst (λ (b : model.Constraint). Step P b T U (n .x + n .y + n .z)) (Option·some-injective _ _ (sym (ap decodedOf q) ∙ e ∙ m))
-          (record { table = s .table; count = s .count })
+      means d m = Option·some-injective _ _ (sym (ap decodedOf q) ∙ e ∙ m)
+
+      pub meant-step : {U : List ℕ} {n : ℕ} → Step P (constraintOf r) T U n → (d : model.Constraint) → meaning p c ≡ some d → Step P d T U n
+      meant-step {U} {n} s d m = subst (λ (b : model.Constraint). Step P b T U n) (means d m) s
+
+      pub meant-narrowed : {U : List ℕ} → U ≡ narrowed P (constraintOf r) T → (d : model.Constraint) → meaning p c ≡ some d → U ≡ narrowed P d T
+      meant-narrowed s d m = s ∙ ap (λ (b : model.Constraint). narrowed P b T) (means d m)
 
   -- ---- constraint j of the list
 
-  module _ (cs : List Constraint) (j : ℕ) (pre : Usable file p × (lendable P T ≡ true) × Listed file p cs × (j < p .c)) where
-    pub inside : j < length cs
-    inside = let h = pre .3 in omega (arith, pre .2 .long)
+  pub inside : (cs : List Constraint) (j : ℕ) → Listed file p cs → j < p .c → j < length cs
+  inside cs j l h = omega (arith, l .long)
 
+  of-list : (cs : List Constraint) (j : ℕ) → Usable file p → Listed file p cs → j < p .c → OfFile file p (getD cs j blank)
+  of-list cs j u l h =
+      let n = usable-counts file p u .constraints in
+      record { is = getD (P .constraints) j (always 0); means = l .at j h; there = getD-in (P .constraints) j (always 0) (omega arith) }
+
+  module _ (cs : List Constraint) (j : ℕ) (pre : Usable file p × (lendable P T ≡ true) × Listed file p cs × (j < p .c)) where
     pub asks-one : Usable file p × (lendable P T ≡ true) × OfFile file p (getD cs j blank)
-    asks-one =
-        let n = usable-counts file p (pre .0) .constraints in
-        let h = pre .3 in (
-          pre .0,
-          pre .1,
-          record {
-            is = getD (P .constraints) j (always 0);
-            means = pre .2 .at j h;
-            there = getD-in (P .constraints) j (always 0)
-                (omega arith);
-          },
-        )
+    asks-one = (pre .0, pre .1, of-list cs j (pre .0) (pre .2) (pre .3))
 
     pub steps-one : {U : List ℕ} {n : ℕ} → ((d : model.Constraint) → meaning p (getD cs j blank) ≡ some d → Step P d T U n) → Step P (getD (P .constraints) j
         (always 0)) T U n
@@ -91,43 +84,37 @@ module _ (file : List ℕ) (p : Parts) (T : List ℕ) where
 
   -- ---- all of them, one after the other
 
-  -- what is reached after the first j constraints: the table, and the count
+  -- what is reached after the first j constraints
   pub record Reached : Type 0 where
     pub j : ℕ
-    pub count : ℕ
     pub table : List ℕ
     pub within : j ≤ p .c
-    pub walked : Walked P (P .constraints) T 0 j table count
+    pub walked : Walked P (P .constraints) T j table
 
   abbrev pub reached-first : Reached
-  reached-first = record { j = 0; count = 0; table = T; within = omega arith; walked = walk-start P (P .constraints) T 0 }
+  reached-first = record { j = 0; table = T; within = omega arith; walked = walk-start P (P .constraints) T }
 
   module _ (cs : List Constraint) (pre : Usable file p × (lendable P T ≡ true) × Listed file p cs) (at : Reached) where
     lent : lendable P (at .table) ≡ true
-    lent = walk-lent P (P .constraints) T 0 (at .j) (at .table) (at .count) (pre .1) (at .walked)
+    lent = walk-lent P (P .constraints) T (at .j) (at .table) (pre .1) (at .walked)
 
     pub reached-length : length (at .table) ≡ length T
     reached-length = lendable-length P (at .table) lent ∙ sym (lendable-length P T (pre .1))
 
-    -- the count fits a `u32`
-    pub reached-few : at .count < 4294967296
-    reached-few = omega (arith, at .walked .count, size-most T, lendable-length P T (pre .1), usable-counts file p (pre .0) .most-words)
-
-    pub reached-ran : p .c ≤ at .j → Ran P (P .constraints) T (at .table) (at .count)
-    reached-ran l = walk-ran P (P .constraints) T (at .j) (at .table) (at .count) (omega (arith, usable-counts file p (pre .0) .constraints)) (at .walked)
+    pub reached-ran : p .c ≤ at .j → at .table ≡ run P (P .constraints) T
+    reached-ran l = walk-ran P (P .constraints) T (at .j) (at .table) (omega (arith, usable-counts file p (pre .0) .constraints)) (at .walked)
 
     module _ (less : at .j < p .c) where
-      pub asks-next : Usable file p × (lendable P (at .table) ≡ true) × Listed file p cs × (at .j < p .c)
-      asks-next = (pre .0, lent, pre .2, less)
+      pub asks-next : Usable file p × (lendable P (at .table) ≡ true) × OfFile file p (getD cs (at .j) blank)
+      asks-next = (pre .0, lent, of-list cs (at .j) (pre .0) (pre .2) less)
 
-      abbrev pub reached-next : (U : List ℕ) (n : ℕ) → Step P (getD (P .constraints) (at .j) (always 0)) (at .table) U n → Reached
-      reached-next U n s = record {
+      abbrev pub reached-next : (U : List ℕ) → ((d : model.Constraint) → meaning p (getD cs (at .j) blank) ≡ some d → U ≡ narrowed P d (at .table)) → Reached
+      reached-next U s = record {
         j = at .j + 1;
-        count = at .count + n;
         table = U;
         within = omega arith;
-        walked = walk-step P (P .constraints) T 0 (at .j) (at .table) (at .count) U n (omega (arith, usable-counts file p (pre .0) .constraints)) s
-            (at .walked);
+        walked = walk-step P (P .constraints) T (at .j) (at .table) U (omega (arith, usable-counts file p (pre .0) .constraints))
+            (s (getD (P .constraints) (at .j) (always 0)) (pre .2 .at (at .j) less)) (at .walked);
       }
 
   -- ---- step j

@@ -5,9 +5,7 @@ use mathlib.Core.Option.{Option, some}
 use Prim.Native.Nat.{ℕ, _≤_, _<_}
 use lib.ListN.{length, getD}
 use Rattle.model.specs.Constraints as model
-use Rattle.model.specs.Constraints.{Problem, always}
-use Rattle.model.specs.Support.{struck}
-use Rattle.model.specs.Rounds.{run}
+use Rattle.model.specs.Constraints.{always}
 use Rattle.model.specs.Reading.{decode}
 use Rattle.laws.specs.Inclusion.{In}
 use Rattle.layout.specs.declared.Parts.{Parts}
@@ -32,8 +30,3 @@ pub record OfFile (file : List ℕ) (p : Parts) (c : Constraint) : Type 0 where
 pub record Listed (file : List ℕ) (p : Parts) (cs : List Constraint) : Type 0 where
   pub long : p .c ≤ length cs
   pub at : (j : ℕ) → j < p .c → meaning p (getD cs j blank) ≡ some (getD (problemIn file p .constraints) j (always 0))
-
--- the steps for these constraints, one after the other, make U of T, and strike n bits
-pub record Ran (P : Problem) (cs : List (model.Constraint)) (T U : List ℕ) (n : ℕ) : Type 0 where
-  pub table : U ≡ run P cs T
-  pub count : n ≡ struck T U

@@ -1,5 +1,6 @@
-// The constraints as a list of records: thin functions take a lent slice of them and call covered steps. The borrow checker's part covers no function that holds
-// a reference to structs, so `lent_step`, `own_step`, `lent_steps` and `own_steps` are proved by walks of their MIR; what they do stands in covered functions.
+// The constraints as a list of records: thin functions take a lent slice of them and call covered steps. The borrow checker's part covers no function that
+// holds a reference to structs, so `lent_step`, `own_step`, `lent_steps` and `own_steps` are proved by walks of their MIR; what they do stands in covered
+// functions.
 //
 // Assumes nothing. `requires` asks what refusals 1 to 10 leave, and that the list is the file's.
 ghost use mathlib.Core.Path.{_≡_};
@@ -8,6 +9,8 @@ ghost use mathlib.Core.Option.{some};
 ghost use Prim.Native.Nat.{_+_, _*_, _<_, _≤_};
 ghost use lib.ListN.{length, getD};
 ghost use Rattle.model.specs.Constraints.{always, Constraint as Meant};
+ghost use Rattle.model.specs.Support.{narrowed};
+ghost use Rattle.model.specs.Rounds.{run};
 ghost use Rattle.model.specs.Layout.{part};
 ghost use Rattle.model.specs.Reading.{decode};
 ghost use Rattle.model.specs.Operations.{stepAt};
@@ -15,7 +18,7 @@ ghost use Rattle.laws.specs.Lent.{lendable};
 ghost use Rattle.layout.specs.declared.Parts.{Parts};
 ghost use Rattle.format.specs.Accepting.{problemIn, Usable};
 ghost use Rattle.steps.specs.Step.{Step};
-ghost use Rattle.list.specs.Listed.{meaning, OfFile, Listed, Ran};
+ghost use Rattle.list.specs.Listed.{meaning, OfFile, Listed};
 
 // A record of the file: its kind, then its arguments, unused ones 0.
 #[repr(C)]
@@ -68,8 +71,7 @@ pub fn record_step(c: Constraint, file: &[u8], p: layout::Parts, table: &mut [u6
     else {
         return 0;
     };
-    let n = steps::narrow(file, p, r, table);
-    n.x + n.y + n.z
+    steps::step(file, p, r, table)
 }
 
 // The step of constraint j of the list.
@@ -109,24 +111,35 @@ pub fn step(file: &[u8], p: layout::Parts, j: usize, table: &mut [u64]) -> u32
     }
 }
 
-// The steps of all the file's constraints, in their order; how many bits they struck.
-pub fn lent_steps(cs: &[Constraint], file: &[u8], p: layout::Parts, table: &mut [u64]) -> u32
-    requires { ⌜ Usable (now file) p × (lendable (problemIn (now file) p) (now table) ≡ true) × Listed (now file) p (now cs) ⌝ }
-    ensures { λ r. ⌜ Ran (problemIn (now (file .entry)) p) (problemIn (now (file .entry)) p .constraints) (now (table .entry)) (now (table .exit)) r ⌝ }
+// The step of one constraint of the file, not counted: what a walk over all of them makes.
+fn record_apply(c: Constraint, file: &[u8], p: layout::Parts, table: &mut [u64])
+    requires { ⌜ Usable (now file) p × (lendable (problemIn (now file) p) (now table) ≡ true) × OfFile (now file) p c ⌝ }
+    ensures { λ r. ⌜ ((d : Meant) → meaning p c ≡ some d → now (table .exit) ≡ narrowed (problemIn (now (file .entry)) p) d (now (table .entry))) ⌝ }
 {
-    let mut n: u32 = 0;
+    let records::Decoded::Constraint(r) = records::decode(c.kind, c.x, c.y, c.z, p.s, p.t, p.d)
+    else {
+        return;
+    };
+    steps::apply(file, p, r, table)
+}
+
+// The steps of all the file's constraints, in their order.
+pub fn lent_steps(cs: &[Constraint], file: &[u8], p: layout::Parts, table: &mut [u64])
+    requires { ⌜ Usable (now file) p × (lendable (problemIn (now file) p) (now table) ≡ true) × Listed (now file) p (now cs) ⌝ }
+    ensures { λ r. ⌜ now (table .exit) ≡ run (problemIn (now (file .entry)) p) (problemIn (now (file .entry)) p .constraints) (now (table .entry)) ⌝ }
+{
     let mut j: usize = 0;
     while j < p.c {
-        n += lent_step(cs, j, file, p, table);
+        let c = cs[j];
+        record_apply(c, file, p, table);
         j += 1;
     }
-    n
 }
 
 // The same of a list by value, which it lends.
-pub fn own_steps(cs: [Constraint; 64], file: &[u8], p: layout::Parts, table: &mut [u64]) -> u32
+pub fn own_steps(cs: [Constraint; 64], file: &[u8], p: layout::Parts, table: &mut [u64])
     requires { ⌜ Usable (now file) p × (lendable (problemIn (now file) p) (now table) ≡ true) × Listed (now file) p cs ⌝ }
-    ensures { λ r. ⌜ Ran (problemIn (now (file .entry)) p) (problemIn (now (file .entry)) p .constraints) (now (table .entry)) (now (table .exit)) r ⌝ }
+    ensures { λ r. ⌜ now (table .exit) ≡ run (problemIn (now (file .entry)) p) (problemIn (now (file .entry)) p .constraints) (now (table .entry)) ⌝ }
 {
     lent_steps(&cs, file, p, table)
 }

@@ -1,55 +1,60 @@
 // Runs narrowing steps on domains made here, as often as it is asked, and prints how many bits are left: bench/steps.py counts the instructions.
 //
 // Standard input holds groups of three bytes: the kind of step (0 trims, 1 to 7 are the paper's kinds, any other does nothing), the domains (0 full, else
-// typical), and how often. Each step works on what the last one left, so that none can be skipped.
+// typical), and how often. Each step works on what the last one left, so that none can be skipped. The table has the rows of three strings, X, Y and Z, and the
+// word of a number, N; its rows are made tidy before the first step, as every step asks.
 use libc::STDIN_FILENO;
 use libc::STDOUT_FILENO;
+ghost use mathlib.Core.Path.{_≡_};
+ghost use mathlib.Core.Bool.{true};
+ghost use Prim.Native.Nat.{_+_, _*_, _≤_};
+ghost use lib.ListN.{length};
 ghost use Rattle.automata.specs.Machine.{Whole};
+ghost use Rattle.measure.specs.TidyRows.{TidyRows};
 
-// The domains of three strings and a number.
-struct Domains {
-    x: [u64; 64],
-    y: [u64; 64],
-    z: [u64; 64],
-    n: u64,
-}
-
-// The lengths of the word, and the symbols 0 to 2 at the first 8 places.
-fn typical_row(lengths: u64) -> [u64; 64] {
-    let mut r = [0u64; 64];
-    r[0] = lengths;
+// Gives string x the lengths of the word, and the symbols 0 to 2 at the first 8 places.
+fn typical_row(t: &mut [u64], x: usize, lengths: u64)
+    requires { ⌜ 64 * x + 64 ≤ length (now t) ⌝ }
+{
     let mut i: usize = 0;
     while i < 8 {
-        r[i + 1] = 7;
+        t[64 * x + i + 1] = 7;
         i += 1;
     }
-    r
+    t[64 * x] = lengths;
 }
 
 // X has the lengths 2 to 4, Y 2 to 5, Z 4 to 8, and N the values 1 to 5.
-fn typical() -> Domains {
-    let x = typical_row(28);
-    let y = typical_row(60);
-    let z = typical_row(496);
-    Domains { x, y, z, n: 62 }
+fn typical() -> [u64; 193] {
+    let mut t = [0u64; 193];
+    typical_row(&mut t, 0, 28);
+    typical_row(&mut t, 1, 60);
+    typical_row(&mut t, 2, 496);
+    t[192] = 62;
+    t
 }
 
-// Every length, symbol and value.
-fn full() -> Domains {
-    let r = [18446744073709551615u64; 64];
-    Domains {
-        x: r,
-        y: r,
-        z: r,
-        n: 18446744073709551615,
-    }
-}
-
-fn start(domains: u8) -> Domains {
+// Every length, symbol and value, or the typical ones.
+fn start(domains: u8) -> [u64; 193] {
     if domains == 0 {
-        return full();
+        return [18446744073709551615u64; 193];
     }
     typical()
+}
+
+// Makes the three rows tidy, as long as each has a value; whether all have.
+fn tidy(t: &mut [u64]) -> bool
+    requires { ⌜ length (now t) ≡ 193 ⌝ }
+    ensures { λ r. ⌜ (r ≡ true → TidyRows 3 (now (t .exit))) ⌝ }
+{
+    let mut x: usize = 0;
+    while x < 3 {
+        if !inplace::tidy(t, x) {
+            return false;
+        }
+        x += 1;
+    }
+    true
 }
 
 // An automaton of two states over 64 symbols: symbol 0 changes the state, any other keeps it, and state 0 accepts.
@@ -68,100 +73,53 @@ fn parity() -> [u8; 133]
     d
 }
 
-fn regular_step(x: [u64; 64]) -> [u64; 64] {
+// The step of Regular on X with this automaton; whether a choice is left.
+fn regular_step(t: &mut [u64]) -> bool
+    requires { ⌜ TidyRows 3 (now t) ⌝ }
+    ensures { λ r. ⌜ (r ≡ true → TidyRows 3 (now (t .exit))) ⌝ }
+{
     let d = parity();
-    regular::narrow(&d, 64, x)
+    let kinds = automata::separate();
+    regular::narrow(&d, 64, &kinds, 0, t, 0).left
 }
 
-fn eq_step(x: [u64; 64], y: [u64; 64], z: [u64; 64], n: u64) -> Domains {
-    let r = eq::narrow(x, y);
-    let rx = r.x;
-    let ry = r.y;
-    Domains { x: rx, y: ry, z, n }
-}
-
-fn neq_step(x: [u64; 64], y: [u64; 64], z: [u64; 64], n: u64) -> Domains {
-    let r = neq::narrow(x, y);
-    let rx = r.x;
-    let ry = r.y;
-    Domains { x: rx, y: ry, z, n }
-}
-
-fn rev_step(x: [u64; 64], y: [u64; 64], z: [u64; 64], n: u64) -> Domains {
-    let r = rev::narrow(x, y);
-    let rx = r.x;
-    let ry = r.y;
-    Domains { x: rx, y: ry, z, n }
-}
-
-fn cat_step(x: [u64; 64], y: [u64; 64], z: [u64; 64], n: u64) -> Domains {
-    let r = cat::narrow(x, y, z);
-    let rx = r.x;
-    let ry = r.y;
-    let rz = r.z;
-    Domains {
-        x: rx,
-        y: ry,
-        z: rz,
-        n,
-    }
-}
-
-// Looks for X in Z from N on.
-fn sub_step(x: [u64; 64], y: [u64; 64], z: [u64; 64], n: u64) -> Domains {
-    let r = sub::narrow(z, x, n);
-    let rz = r.x;
-    let rx = r.y;
-    Domains {
-        x: rx,
-        y,
-        z: rz,
-        n: r.n,
-    }
-}
-
-// Measures Z.
-fn len_step(x: [u64; 64], y: [u64; 64], z: [u64; 64], n: u64) -> Domains {
-    let r = len::narrow(z, n);
-    let rz = r.x;
-    Domains {
-        x,
-        y,
-        z: rz,
-        n: r.n,
-    }
-}
-
-fn step(kind: u8, s: Domains) -> Domains {
-    let x = s.x;
-    let y = s.y;
-    let z = s.z;
-    let n = s.n;
+// One step of this kind; whether a choice is left. Sub looks for X in Z from N on, and Len measures Z.
+fn step(kind: u8, t: &mut [u64]) -> bool
+    requires { ⌜ TidyRows 3 (now t) ⌝ }
+    ensures { λ r. ⌜ (r ≡ true → TidyRows 3 (now (t .exit))) ⌝ }
+{
     match kind {
-        0 => {
-            let t = rows::trim(x);
-            Domains { x: t, y, z, n }
-        }
-        1 => eq_step(x, y, z, n),
-        2 => neq_step(x, y, z, n),
-        3 => rev_step(x, y, z, n),
-        4 => cat_step(x, y, z, n),
-        5 => sub_step(x, y, z, n),
-        6 => len_step(x, y, z, n),
-        7 => {
-            let t = regular_step(x);
-            Domains { x: t, y, z, n }
-        }
-        _ => s,
+        0 => inplace::tidy(t, 0),
+        1 => eq::narrow(t, 0, 1).left,
+        2 => neq::narrow(t, 0, 1).left,
+        3 => rev::narrow(t, 0, 1).left,
+        4 => cat::narrow(t, 0, 1, 2).left,
+        5 => sub::narrow(t, 2, 0, 192).left,
+        6 => len::narrow(t, 2, 192).left,
+        7 => regular_step(t),
+        _ => true,
     }
 }
 
-// How many bits a row has.
-fn bits(r: [u64; 64]) -> u64 {
+// So many steps, or as many as leave a choice.
+fn run(kind: u8, times: u8, t: &mut [u64])
+    requires { ⌜ TidyRows 3 (now t) ⌝ }
+{
+    let mut i: u8 = 0;
+    while i < times {
+        if !step(kind, t) {
+            return;
+        }
+        i += 1;
+    }
+}
+
+// How many bits a table has.
+fn bits(t: [u64; 193]) -> u64 {
     let mut n: u64 = 0;
     let mut i: usize = 0;
-    while i < 64 {
-        n = std::num::wrapping_add_u64(n, words::count(r[i]) as u64);
+    while i < 193 {
+        n = std::num::wrapping_add_u64(n, words::count(t[i]) as u64);
         i += 1;
     }
     n
@@ -169,17 +127,11 @@ fn bits(r: [u64; 64]) -> u64 {
 
 // How many bits are left after so many steps.
 fn left(kind: u8, domains: u8, times: u8) -> u64 {
-    let mut s = start(domains);
-    let mut i: u8 = 0;
-    while i < times {
-        s = step(kind, s);
-        i += 1;
+    let mut t = start(domains);
+    if tidy(&mut t) {
+        run(kind, times, &mut t);
     }
-    let x = s.x;
-    let y = s.y;
-    let z = s.z;
-    let strings = std::num::wrapping_add_u64(std::num::wrapping_add_u64(bits(x), bits(y)), bits(z));
-    std::num::wrapping_add_u64(strings, words::count(s.n) as u64)
+    bits(t)
 }
 
 // One line: the kind, the domains, and the bits that are left.
@@ -192,6 +144,7 @@ fn report(kind: u8, domains: u8, times: u8) {
     io::write_all(STDOUT_FILENO, b"\n");
 }
 
+// A line for each group of three bytes.
 fn main() {
     let mut input = [0u8; 300];
     let n = io::read_full(STDIN_FILENO, &mut input);

@@ -1,5 +1,5 @@
--- The laws of Neq: rows that stand for one string; the strings other than that one; the step.
+-- The laws of Neq.
 pub mod OneStringLaws
 pub mod OtherLaws
-pub mod TurnLaws
 pub mod StepLaws
+pub mod WithoutLaws

@@ -3,19 +3,25 @@ use mathlib.Core.Path.{_≡_, refl, sym, ap, subst, _∙_}
 use mathlib.Core.Logic.{_≢_}
 use mathlib.Core.Bool.{Bool, true, false, not, false≢true}
 use mathlib.Core.List.{List}
-use Prim.Native.Nat.{ℕ, _≤_, _<_}
+use Prim.Native.Nat.{ℕ, zero, suc, _+_, _*_, _≤_, _<_}
 use native.Mathlib.Omega.{arith}
 use lib.ListN.{length}
-use borrow.Author.Tests.{le-leb}
+use lib.Dec.{ltb}
+use borrow.Author.Tests.{le-leb, ltb-true, ltb-false}
 use Rattle.model.specs.Lists.{any}
 use Rattle.model.specs.Words.{bit, bits, several, word, Words}
+use Rattle.model.specs.Domains.{row}
 use Rattle.model.specs.Solutions.{textBit}
+use Rattle.words.specs.Ends.{Highest}
 use Rattle.rows.proofs.TrimLaws.{allowed-strings, supported-in}
 use Rattle.laws.specs.Inclusion.{Single}
 use Rattle.laws.specs.Supported.{InRow, Supports}
 use Rattle.laws.proofs.ListLaws.{of-any, in-any, getD-in, in-getD}
 use Rattle.laws.proofs.WordLaws.{zero-bit, within-antisym}
-use Rattle.laws.proofs.BitsLaws.{several-true, several-false, two-bits}
+use Rattle.laws.proofs.BitsLaws.{single-of, several-true, several-false, two-bits}
+use Rattle.laws.proofs.DomainLaws.{row-word, row-length}
+use Rattle.inplace.specs.InTable.{Tidy}
+use Rattle.inplace.proofs.Tables.{row-first, row-place, highest-one}
 use Rattle.laws.proofs.RowLaws.{used-once, same-strings}
 
 -- ---- the test
@@ -43,6 +49,31 @@ none-several v h = go (any several v) refl
         absurd (omega arith)
     go false e = refl
 
+-- of string x's row, by the table's words
+pub row-several : (T : List ℕ) (x i k : ℕ) → 64 * x + 64 ≤ length T → i < 64 → 64 * x + i ≡ k → several (word T k) ≡ true → false ≡ not (any several (row T x))
+row-several T x i k f h d e =
+    let l = row-length T x f in
+    has-several (row T x) i (omega arith) (subst (λ (w : ℕ). 2 ≤ length (bits w)) (sym (row-word T x i h ∙ ap (word T) d)) (several-true (word T k) e))
+
+pub row-single : (T : List ℕ) (x : ℕ) → 64 * x + 64 ≤ length T → Tidy (row T x) → several (word T (64 * x)) ≡ false → (top : ℕ) → Highest (word T (64 * x)) top
+    → ((i : ℕ) → i < top → Single (word T (suc (64 * x + i)))) → true ≡ not (any several (row T x))
+row-single T x f tidy e top high h = none-several (row T x)
+    (elim [
+      | zero ↦ λ k. subst Single (sym (row-first T x)) (several-false (word T (64 * x)) e)
+      | suc i ↦ λ k. let l = row-length T x f in at i (omega arith)
+          (ltb i top) refl
+    ])
+  where
+    same-top : tidy .top ≡ top
+    same-top = highest-one (word T (64 * x)) (tidy .top) top (subst (λ (w : ℕ). Highest w (tidy .top)) (row-first T x) (tidy .longest)) high
+
+    at : (i : ℕ) → i < 63 → (t : Bool) → ltb i top ≡ t → Single (word (row T x) (suc i))
+    at i k true q = subst Single (sym (row-place T x i k)) (h i (ltb-true i top q))
+    at i k false q =
+        let d = same-top in
+        let l = ltb-false i top q in
+        subst Single (sym (tidy .gone i (omega arith))) (single-of 0 (λ b c p. absurd (false≢true (sym (zero-bit b) ∙ p))))
+
 -- ---- what it says of a row
 
 -- strings that use two bits of one word are two strings
@@ -51,10 +82,6 @@ uses-apart u₁ u₂ j b c p q h e = let d = used-once u₂ j b c (subst (λ (w 
 
 -- y is a row, and v what trimming leaves of it
 module _ (y v : List ℕ) (bY : Words y) (bV : Words v) (s : Supports (InRow y) textBit 64 v) where
-  -- without a length there is no string
-  pub no-string : word v 0 ≡ 0 → (w : List ℕ) → InRow y w → ⊥
-  no-string z w i = false≢true (sym (zero-bit (length w)) ∙ ap (λ (a : ℕ). bit a (length w)) (sym z) ∙ supported-in y v bY s w i .length-bit)
-
   module _ (one : any several v ≡ false) where
     one-bit : (j : ℕ) → j < length v → Single (word v j)
     one-bit j h = go (several (word v j)) refl

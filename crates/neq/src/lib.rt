@@ -1,28 +1,34 @@
 // Neq(X, Y): some difference in length or at some place.
 //
-// Assumes nothing, and requires nothing of its rows.
+// Assumes nothing. Requires two strings with tidy rows.
 ghost use mathlib.Core.Path.{_≡_};
-ghost use mathlib.Core.Bool.{true, not};
-ghost use mathlib.Core.List.{List, [], _++_};
-ghost use Prim.Native.Nat.{ℕ, _<_, _+_};
+ghost use mathlib.Core.Logic.{_≢_};
+ghost use mathlib.Core.Bool.{not};
+ghost use mathlib.Core.List.{[], _∷_};
+ghost use Prim.Native.Nat.{_<_, _≤_, _+_, _*_};
 ghost use lib.ListN.{length};
 ghost use Rattle.model.specs.Lists.{any};
-ghost use Rattle.model.specs.Words.{several, word, Words};
+ghost use Rattle.model.specs.Words.{several};
+ghost use Rattle.model.specs.Domains.{row};
 ghost use Rattle.model.specs.Constraints.{neq};
-ghost use Rattle.model.specs.Solutions.{textBit};
-ghost use Rattle.model.specs.Support.{narrowed};
-ghost use Rattle.laws.specs.Supported.{Supports};
-ghost use Rattle.words.specs.Ends.{Lowest};
-ghost use Rattle.rows.specs.Rows.{alone, trimmed};
-ghost use Rattle.neq.specs.Others.{Against, differingAt, otherThan};
+ghost use Rattle.inplace.specs.InTable.{Tidy};
+ghost use Rattle.inplace.specs.InPlace.{InPlace};
+ghost use Rattle.neq.specs.Others.{Alike, Without, OneOther};
 
-// Whether no word has two bits: a trimmed row that has a string stands for that one alone.
-fn one_string(v: [u64; 64]) -> bool
-    ensures { λ r. ⌜ r ≡ not (any several v) ⌝ }
+// Whether no word of string x's row has two bits: the row, being tidy, stands for one string then.
+fn one_string(t: &[u64], x: usize) -> bool
+    requires { ⌜ (64 * x + 64 ≤ length (now t)) × Tidy (row (now t) x) ⌝ }
+    ensures { λ r. ⌜ r ≡ not (any several (row (now (t .entry)) x)) ⌝ }
 {
+    let a = 64 * x;
+    let lengths = t[a];
+    if words::several(lengths) {
+        return false;
+    }
+    let top = words::highest(lengths);
     let mut i: usize = 0;
-    while i < 64 {
-        if words::several(v[i]) {
+    while i < top {
+        if words::several(t[a + i + 1]) {
             return false;
         }
         i += 1;
@@ -30,73 +36,112 @@ fn one_string(v: [u64; 64]) -> bool
     true
 }
 
-// The strings of x that differ from v's one string in word i: in their length, or, where they are as long, in the symbol at place i.
-fn differing_at(x: [u64; 64], v: [u64; 64], i: usize) -> [u64; 64]
-    requires { ⌜ i < 64 ⌝ }
-    ensures { λ r. ⌜ r ≡ differingAt x v i ⌝ }
+// The first place from start on, of at most l, at which the words after a and after b differ; l where there is none.
+fn alike(t: &[u64], a: usize, b: usize, start: usize, l: usize) -> usize
+    requires { ⌜ (start ≤ l) × (a + l < length (now t)) × (b + l < length (now t)) ⌝ }
+    ensures { λ r. ⌜ Alike (now (t .entry)) a b start l r ⌝ }
 {
-    let mut r = x;
-    r[0] = x[0] & v[0];
-    r[i] = x[i] & !v[i];
-    r
-}
-
-// Whether two rows agree in every word. They are lent: a row by value is copied.
-fn same(r: &[u64; 64], s: &[u64; 64]) -> bool
-    ensures { λ b. ⌜ (b ≡ true → (i : ℕ) → i < 64 → word (now (r .entry)) i ≡ word (now (s .entry)) i) ⌝ }
-{
-    let mut j: usize = 0;
-    while j < 64 {
-        if r[j] != s[j] {
-            return false;
+    let mut i = start;
+    while i < l {
+        if t[a + i + 1] != t[b + i + 1] {
+            return i;
         }
-        j += 1;
+        i += 1;
     }
-    true
+    i
 }
 
-// What those strings of x use that differ from v's one string, of length top, in one of the words up to top: a union of trimmed rows.
-// A word where x has nothing that v lacks adds nothing, and nothing is added to all that x's strings use, which is u.
-fn other_than(x: [u64; 64], u: [u64; 64], v: [u64; 64], top: usize) -> [u64; 64]
-    requires { ⌜ Lowest (word v 0) top ⌝ }
-    ensures { λ r. ⌜ (u ≡ trimmed x → r ≡ otherThan x v (top + 1)) ⌝ }
+// What becomes of a row: whether it keeps a string, and whether it lost a bit.
+struct Lost {
+    left: bool,
+    changed: bool,
+}
+
+// Takes the one string of y from string x. It takes a bit only where all else is decided: the length, where x allows just that string's symbols; its symbol at
+// the one place where x allows others too, if no other length reaches that place.
+fn without(t: &mut [u64], x: usize, y: usize) -> Lost
+    requires { ⌜ OneOther (now t) x y ⌝ }
+    ensures { λ r. ⌜ Without (now (t .entry)) x y (now (t .exit)) (r .left) (r .changed) ⌝ }
 {
-    let mut r = [0u64; 64];
-    let mut t: usize = 0;
-    while t <= top {
-        if x[t] & !v[t] != 0 {
-            let more = rows::join(rows::trim(differing_at(x, v, t)), r);
-            if same(&more, &u) {
-                return more;
-            }
-            r = more;
+    let a = 64 * x;
+    let b = 64 * y;
+    let l = words::highest(t[b]);
+    let lengths = t[a];
+    if !words::has(lengths, l) {
+        return Lost {
+            left: true,
+            changed: false,
+        };
+    }
+    let others = lengths & !words::singleton(l);
+    let at = alike(t, a, b, 0, l);
+    if at == l {
+        if others == 0 {
+            return Lost {
+                left: false,
+                changed: false,
+            };
         }
-        t += 1;
+        let shorter = inplace::shorten(t, x, others);
+        return Lost {
+            left: true,
+            changed: shorter,
+        };
     }
-    r
+    let w = t[a + at + 1];
+    let v = t[b + at + 1];
+    if w & v == 0 {
+        return Lost {
+            left: true,
+            changed: false,
+        };
+    }
+    if others >> (at + 1) != 0 {
+        return Lost {
+            left: true,
+            changed: false,
+        };
+    }
+    if alike(t, a, b, at + 1, l) < l {
+        return Lost {
+            left: true,
+            changed: false,
+        };
+    }
+    t[a + at + 1] = w & !v;
+    Lost {
+        left: true,
+        changed: true,
+    }
 }
 
-// What Neq leaves of x against another row y; both come trimmed too, as u and v.
-fn side(x: [u64; 64], u: [u64; 64], v: [u64; 64]) -> [u64; 64]
-    ensures { λ r. ⌜ ((y : List ℕ) → length y ≡ 64 → Words y → u ≡ trimmed x → v ≡ trimmed y → Supports (Against x y) textBit 64 r) ⌝ }
+// One narrowing step: a side loses something only where the other stands for one string.
+pub fn narrow(t: &mut [u64], x: usize, y: usize) -> inplace::Change
+    requires { ⌜ (64 * x + 64 ≤ length (now t)) × (64 * y + 64 ≤ length (now t)) × (y ≢ x) × Tidy (row (now t) x) × Tidy (row (now t) y) ⌝ }
+    ensures { λ r. ⌜ InPlace [] (neq 0 1) (x ∷ y ∷ []) [] (now (t .entry)) (now (t .exit)) r ⌝ }
 {
-    if v[0] == 0 {
-        return [0u64; 64];
+    if one_string(t, y) {
+        let of_x = without(t, x, y);
+        return inplace::Change {
+            left: of_x.left,
+            x: of_x.changed,
+            y: false,
+            z: false,
+        };
     }
-    if one_string(v) {
-        return other_than(x, u, v, words::lowest(v[0]));
+    if one_string(t, x) {
+        let of_y = without(t, y, x);
+        return inplace::Change {
+            left: of_y.left,
+            x: false,
+            y: of_y.changed,
+            z: false,
+        };
     }
-    u
-}
-
-// One narrowing step: each side loses something beyond trimming only when the other stands for one string or for none.
-pub fn narrow(x: [u64; 64], y: [u64; 64]) -> rows::Pair
-    ensures { λ r. ⌜ r .x ++ r .y ≡ narrowed (alone 2 0 []) (neq 0 1) (x ++ y) ⌝ }
-{
-    let u = rows::trim(x);
-    let v = rows::trim(y);
-    rows::Pair {
-        x: side(x, u, v),
-        y: side(y, v, u),
+    inplace::Change {
+        left: true,
+        x: false,
+        y: false,
+        z: false,
     }
 }

@@ -94,6 +94,16 @@ module _ (A : Automaton) (x : List ℕ) where
         leads = reached-append A 0 (r .symbols) (a ∷ []) ∙ ap (λ (s : ℕ). move A s a) (r .leads);
       }
 
+  pub reach-on : (i p : ℕ) (v : List ℕ) → Reach A x i p → Allowed x i v → Reach A x (i + length v) (reached A p v)
+  reach-on i p v r h =
+      let n = r .long in
+      record {
+        symbols = r .symbols ++ v;
+        long = omega (arith, length-append (r .symbols) v);
+        allowed = allowed-append x (r .symbols) v i n (r .allowed) h;
+        leads = reached-append A 0 (r .symbols) v ∙ ap (λ (s : ℕ). reached A s v) (r .leads);
+      }
+
   -- the last move of a way
   pub record Came (i t : ℕ) : Type 0 where
     pub state : ℕ

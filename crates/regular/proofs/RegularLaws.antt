@@ -1,34 +1,28 @@
 -- Regular by support: the lengths and the symbols that the loops keep are those that accepted strings of the row use. Assumes nothing.
 use mathlib.Core.Path.{_≡_, refl, sym, ap, subst, _∙_}
-use mathlib.Core.Logic.{_⊎_, inl, inr}
 use mathlib.Core.Bool.{Bool, true, false, false≢true}
 use mathlib.Core.List.{List, [], _∷_, _++_}
 use Prim.Native.Nat.{ℕ, zero, suc, _+_, _-_, _^_, _≤_, _<_}
-use native.Mathlib.Nat.{le-of-suc-le-suc, eq-or-lt-of-le}
-use native.Mathlib.Numerals.{add-one}
 use native.Mathlib.Omega.{arith}
 use lib.Bits.{bitAnd, bitOr}
-use lib.ListN.{length, getD, set, take, drop, length-append, length-drop, length-set}
-use lib.Seq.{split-at, take-length, length-take-le, getD-at, getD-set-same, getD-set-other}
-use Rattle.model.specs.Words.{bit, word}
-use Rattle.model.specs.Constraints.{Automaton, move, reached, accepts, regular, variables, meets, Problem, noAutomaton, width}
+use lib.ListN.{length, getD, take, drop, length-append, length-drop}
+use lib.Seq.{split-at, take-length, length-take-le, getD-at}
+use Rattle.model.specs.Words.{bit, word, Words}
+use Rattle.model.specs.Constraints.{Automaton, move, reached, accepts, regular, variables, meets}
 use Rattle.model.specs.Solutions.{textBit}
 use Rattle.model.specs.Support.{narrowed}
 use Rattle.laws.specs.Supported.{InRow, Supports}
 use Rattle.laws.proofs.RowLaws.{used-length, used-symbol, symbol-inside}
-use Rattle.rows.specs.Rows.{alone, stored}
+use Rattle.rows.specs.Rows.{alone}
 use Rattle.rows.proofs.Windows.{uses-symbol, uses-length}
 use Rattle.words.specs.Ends.{Lowest}
 use Rattle.automata.specs.StateSets.{Leads}
 use Rattle.automata.proofs.SetLaws.{Walked, walked-skip, walked-one}
 use Rattle.regular.specs.Paths.{Reach, Ends}
-use Rattle.regular.specs.PlaceSets.{Forward, Backward, Lengths, Symbols}
+use Rattle.regular.specs.Backwards.{Accepted, Through}
 use Rattle.regular.proofs.PathLaws.{reached-append, allowed-first, first-allowed, allowed-cons, allowed-append, allowed-take, allowed-drop}
 use Rattle.regular.proofs.BitLaws.{meeting-bit, no-meeting-bit}
-use Rattle.regular.proofs.StateLaws.{Suited, reach-known}
 use Rattle.rows.proofs.OneString.{Passing, one-narrowed}
-use Rattle.model.specs.Domains.{row}
-use Rattle.rows.proofs.PlacedKinds.{placed-one}
 
 -- ---- the loop over lengths
 
@@ -36,11 +30,13 @@ use Rattle.rows.proofs.PlacedKinds.{placed-one}
 abbrev pub Ending : ℕ → ℕ → List ℕ → ℕ → ℕ → Type 0
 Ending allowed accepting sets l t = (l ≡ t) × (bit allowed l ≡ true) × ((p : ℕ) × (bit accepting p ≡ true) × (bit (word sets l) p ≡ true))
 
-module _ (allowed accepting : ℕ) (sets : List ℕ) (rest r l o s : ℕ) (g : Walked 64 allowed (Ending allowed accepting sets) rest r) (low : Lowest rest l) (e : o ≡ 2 ^ l) where
+module _ (allowed accepting : ℕ) (sets : List ℕ) (rest r l o s : ℕ) (g : Walked 64 allowed (Ending allowed accepting sets) rest r) (low : Lowest rest l)
+    (e : o ≡ 2 ^ l) where
   pub lengths-skip : bitAnd accepting (word sets l) ≡ 0 → s ≡ r → Walked 64 allowed (Ending allowed accepting sets) (rest - o) s
   lengths-skip z q = rw q (walked-skip 64 allowed _ rest r l o g low e (λ t x. no-meeting-bit accepting (word sets l) (x .2 .0) z (x .2 .1) (x .2 .2)))
 
-  pub lengths-add : accepting < 2 ^ 32 → (bitAnd accepting (word sets l) ≡ 0 → ⊥) → s ≡ bitOr o r → Walked 64 allowed (Ending allowed accepting sets) (rest - o) s
+  pub lengths-add : accepting < 2 ^ 32 → (bitAnd accepting (word sets l) ≡ 0 → ⊥) → s ≡ bitOr o r → Walked 64 allowed (Ending allowed accepting sets)
+      (rest - o) s
   lengths-add h ne u =
       let m = meeting-bit accepting (word sets l) h ne in
       let v : s ≡ bitOr (2 ^ l) r = u ∙ ap (λ (i : ℕ). bitOr i r) e in
@@ -63,43 +59,12 @@ module _ (A : Automaton) (q k allowed before after rest r a o s : ℕ) (b : Bool
         let v : s ≡ bitOr (2 ^ a) r = u ∙ ap (λ (i : ℕ). bitOr i r) e in
         rw v (walked-one k allowed _ rest r a o g low e a (refl, g .known a (low .here) .1, (y .0, y .1, y .2 .0, y .2 .1)) (λ t z. z .0))
 
--- ---- the loop over places
-
--- r has the lengths that are kept, and the symbols that are kept at the first n places
-pub record Kept (A : Automaton) (q k : ℕ) (x before after : List ℕ) (n : ℕ) (r : List ℕ) : Type 0 where
-  pub size : length r ≡ 64
-  pub lengths : Lengths 64 (word x 0) (A .accepting) before (word r 0)
-  pub places : (j : ℕ) → j < n → Symbols A q k (word x (suc j)) (word before j) (word after (suc j)) (word r (suc j))
-
-module _ (A : Automaton) (q k : ℕ) (x before after : List ℕ) where
-  pub kept-start : (r : List ℕ) (acc : ℕ) → length r ≡ 64 → acc ≡ A .accepting → Lengths 64 (word x 0) acc before (word r 0) → Kept A q k x before after 0 r
-  kept-start r acc n e g = record { size = n; lengths = subst (λ (a : ℕ). Lengths 64 (word x 0) a before (word r 0)) e g; places = λ j h. absurd (omega arith) }
-
-  pub kept-upto : (n m : ℕ) (r : List ℕ) → n ≡ m → Kept A q k x before after n r → Kept A q k x before after m r
-  kept-upto n m r e t = subst (λ (i : ℕ). Kept A q k x before after i r) e t
-
-  pub kept-step : (r : List ℕ) (i place : ℕ) → i < 63 → Kept A q k x before after i r → Symbols A q k (word x (i + 1)) (word before i) (word after (i + 1)) place
-      → Kept A q k x before after (i + 1) (set r (i + 1) place)
-  kept-step r i place h t g =
-      let n = t .size in
-      rw add-one (record {
-        size = simp length-set n;
-        lengths = subst (Lengths 64 (word x 0) (A .accepting) before) (sym (getD-set-other r (suc i) 0 place 0 (omega arith))) (t .lengths);
-        places = λ j l. at j (eq-or-lt-of-le (le-of-suc-le-suc l));
-      })
-    where
-      at : (j : ℕ) → (j ≡ i) ⊎ (j < i) → Symbols A q k (word x (suc j)) (word before j) (word after (suc j)) (word (set r (suc i) place) (suc j))
-      at j (inl e) =
-          let n = t .size in
-          let s : Symbols A q k (word x (suc i)) (word before i) (word after (suc i)) place = rw add-one at g in
-          rw e (subst (Symbols A q k (word x (suc i)) (word before i) (word after (suc i))) (sym (getD-set-same r (suc i) place 0 (omega arith))) s)
-      at j (inr l) = subst (Symbols A q k (word x (suc j)) (word before j) (word after (suc j))) (sym (getD-set-other r (suc i) (suc j) place 0 (omega arith))) (t .places j l)
-
 -- ---- strings and ways
 
 module _ (A : Automaton) (x : List ℕ) where
   -- a way to an accepting state, with a length that is allowed
-  length-string : (l p : ℕ) → Reach A x l p → bit (word x 0) l ≡ true → bit (A .accepting) p ≡ true → (w : List ℕ) × Passing (accepts A) x w × (bit (textBit w 0) l ≡ true)
+  length-string : (l p : ℕ) → Reach A x l p → bit (word x 0) l ≡ true → bit (A .accepting) p ≡ true → (w : List ℕ) × Passing (accepts A) x w ×
+      (bit (textBit w 0) l ≡ true)
   unfolding accepts
   length-string l p f e b = (
     f .symbols,
@@ -111,7 +76,8 @@ module _ (A : Automaton) (x : List ℕ) where
   )
 
   -- a way to a state, a move from it, and a way on to an accepted end
-  symbol-string : (j p a : ℕ) → Reach A x j p → bit (word x (suc j)) a ≡ true → Ends A x (suc j) (move A p a) → (w : List ℕ) × Passing (accepts A) x w × (bit (textBit w (suc j)) a ≡ true)
+  symbol-string : (j p a : ℕ) → Reach A x j p → bit (word x (suc j)) a ≡ true → Ends A x (suc j) (move A p a) → (w : List ℕ) × Passing (accepts A) x w ×
+      (bit (textBit w (suc j)) a ≡ true)
   unfolding accepts reached
   symbol-string j p a f b e =
       let u : List ℕ = f .symbols in
@@ -131,7 +97,13 @@ module _ (A : Automaton) (x : List ℕ) where
 
   -- a string's own ways
   string-reach : (w : List ℕ) → InRow x w → (j : ℕ) → j ≤ length w → Reach A x j (reached A 0 (take j w))
-  string-reach w i j h = record { symbols = take j w; long = length-take-le j w h; allowed = allowed-take x w j h (allowed-first x w (i .symbol-bits)); leads = refl }
+  string-reach w i j h = record {
+    symbols = take j w;
+    long = length-take-le j w h;
+    allowed = allowed-take x w j h
+        (allowed-first x w (i .symbol-bits));
+    leads = refl;
+  }
 
   string-ends : (w : List ℕ) → Passing (accepts A) x w → (j : ℕ) → j < length w → Ends A x (suc j) (move A (reached A 0 (take j w)) (getD w j 0))
   unfolding accepts reached
@@ -141,69 +113,42 @@ module _ (A : Automaton) (x : List ℕ) where
         symbols = drop (suc j) w;
         long = subst (λ (k : ℕ). bit (word x 0) k ≡ true) n (m .inside .length-bit);
         allowed = allowed-drop x w (suc j) (allowed-first x w (m .inside .symbol-bits));
-        accepted = ap (bit (A .accepting)) (sym (reached-append A 0 (take j w) (getD w j 0 ∷ drop (suc j) w)) ∙ ap (reached A 0) (sym (split-at w j 0 h))) ∙ m .meeting;
+        accepted = ap (bit (A .accepting)) (sym (reached-append A 0 (take j w) (getD w j 0 ∷ drop (suc j) w)) ∙ ap (reached A 0) (sym (split-at w j 0 h)))
+            ∙ m .meeting;
       }
 
 -- ---- support
 
-module _ (A : Automaton) (q k : ℕ) (x before after r : List ℕ) (fit : Suited A q k x) (f : Forward A x 64 before) (b : Backward A q x 1 after) (kept : Kept A q k x before after 63 r) where
-  length-sound : (l : ℕ) → bit (word r 0) l ≡ true → (w : List ℕ) × Passing (accepts A) x w × (bit (textBit w 0) l ≡ true)
-  length-sound l e =
-      let t = kept .lengths .sound l e in
-      let y = t .2 .2 in
-      subst (λ (n : ℕ). (w : List ℕ) × Passing (accepts A) x w × (bit (textBit w 0) n ≡ true)) (t .2 .0)
-      (length-string A x (t .0) (y .0) (f .sound (t .0) (y .0) (t .1) (y .2)) (t .2 .1) (y .1))
+module _ (A : Automaton) (x r : List ℕ) (size : length x ≡ 64) (bd : Words x) (wide : length r ≡ 64) (lengths : Accepted A x (word r 0))
+    (places : (j : ℕ) → j < 63 → Through A x j (word r (suc j))) where
+  pub length-sound : (l : ℕ) → bit (word r 0) l ≡ true → (w : List ℕ) × Passing (accepts A) x w × (bit (textBit w 0) l ≡ true)
+  length-sound l b = let t = lengths .sound l b in let m = t .1 in length-string A x l (m .0) (m .1) (t .0) (m .2)
 
   symbol-sound : (j a : ℕ) → j < 63 → bit (word r (suc j)) a ≡ true → (w : List ℕ) × Passing (accepts A) x w × (bit (textBit w (suc j)) a ≡ true)
-  symbol-sound j a h e =
-      let t = kept .places j h .sound a e in
-      let y = t .2 .2 in
-      subst (λ (n : ℕ). (w : List ℕ) × Passing (accepts A) x w × (bit (textBit w (suc j)) n ≡ true)) (t .2 .0)
-      (symbol-string A x j (y .0) (t .0) (f .sound j (y .0) (omega arith) (y .2)) (t .2 .1) (b .sound (suc j) (move A (y .0) (t .0)) (omega arith) (omega arith) (y .3)))
+  symbol-sound j a h b = let t = places j h .sound a b in let m = t .1 in symbol-string A x j (m .0) a (m .1) (t .0) (m .2)
 
   length-stays : (l : ℕ) (w : List ℕ) → Passing (accepts A) x w → bit (textBit w 0) l ≡ true → bit (word r 0) l ≡ true
   unfolding accepts
   length-stays l w m e =
       let n : length w ≡ l = used-length w l e in
-      let h = fit .words 0 (length w) (m .inside .length-bit) in
-      let c = string-reach A x w (m .inside) (length w) (omega arith) in
-      let p : ℕ = reached A 0 (take (length w) w) in
-      let a : bit (A .accepting) p ≡ true = ap (λ (u : List ℕ). bit (A .accepting) (reached A 0 u)) (take-length w) ∙ m .meeting in
-      kept .lengths .complete l (length w) h (n, m .inside .length-bit, (p, a, f .complete (length w) p h c))
+      let a : bit (A .accepting) (reached A 0 (take (length w) w)) ≡ true = ap (λ (u : List ℕ). bit (A .accepting) (reached A 0 u)) (take-length w)
+      ∙ m .meeting in
+      subst (λ (i : ℕ). bit (word r 0) i ≡ true) n
+      (lengths .complete (length w) _ (m .inside .length-bit) (string-reach A x w (m .inside) (length w) (omega arith)) a)
 
-  symbol-stays : (j a : ℕ) → j < 63 → (w : List ℕ) → Passing (accepts A) x w → bit (textBit w (suc j)) a ≡ true → bit (word r (suc j)) a ≡ true
+  pub symbol-stays : (j a : ℕ) → j < 63 → (w : List ℕ) → Passing (accepts A) x w → bit (textBit w (suc j)) a ≡ true → bit (word r (suc j)) a ≡ true
   symbol-stays j a h w m e =
       let l = symbol-inside w j a e in
-      let s : ℕ = getD w j 0 in
-      let p : ℕ = reached A 0 (take j w) in
-      let c = string-reach A x w (m .inside) j (omega arith) in
-      let v = m .inside .symbol-bits j l in
-      let pk = reach-known A q k x fit j p c in
-      let sk = fit .low j s v in
-      kept .places j h .complete a s sk (
-        used-symbol w j a e,
-        v,
-        (
-          p,
-          pk,
-          f .complete j p (omega arith) c,
-          b .complete (suc j) (move A p s) (omega arith) (omega arith) (fit .known p s pk sk) (string-ends A x w m j l),
-        ),
-      )
+      subst (λ (i : ℕ). bit (word r (suc j)) i ≡ true) (used-symbol w j a e)
+      (places j h .complete (getD w j 0) _ (m .inside .symbol-bits j l) (string-reach A x w (m .inside) j (omega arith)) (string-ends A x w m j l))
 
-  kept-supports : Supports (Passing (accepts A) x) textBit 64 r
-  kept-supports = record {
-    count = kept .size;
+  through-supports : Supports (Passing (accepts A) x) textBit 64 r
+  through-supports = record {
+    count = wide;
     sound = elim [ zero ↦ λ l h e. length-sound l e | suc j ↦ λ a h e. symbol-sound j a (omega arith) e ];
     complete = elim [ zero ↦ λ l h w m e. length-stays l w m e | suc j ↦ λ a h w m e. symbol-stays j a (omega arith) w m e ];
   }
 
   pub regular-narrowed : r ≡ narrowed (alone 1 0 (A ∷ [])) (regular 0 0) x
   unfolding variables meets alone
-  regular-narrowed = one-narrowed (A ∷ []) (regular 0 0) (accepts A) refl (λ α. refl) x (fit .size) (fit .words) r kept-supports
-
--- the row that `narrow` gives, put back into a table, makes the narrowed table; A is the automaton that the constraint names
-pub regular-placed : (P : Problem) (x d : ℕ) (A : Automaton) → A ≡ getD (P .automata) d noAutomaton → x < P .strings → (T : List ℕ) → length T ≡ width P
-    → (r : List ℕ) → r ≡ narrowed (alone 1 0 (A ∷ [])) (regular 0 0) (row T x) → stored T x r ≡ narrowed P (regular x d) T
-unfolding variables meets alone
-regular-placed P x d A e h = placed-one P (regular x d) (regular 0 0) (A ∷ []) x h refl refl (λ α. ap (λ (B : Automaton). accepts B (α .text x)) (sym e))
+  regular-narrowed = one-narrowed (A ∷ []) (regular 0 0) (accepts A) refl (λ α. refl) x size bd r through-supports

@@ -2,11 +2,11 @@
 use mathlib.Core.Path.{_≡_}
 use mathlib.Core.Bool.{true}
 use mathlib.Core.List.{List}
-use Prim.Native.Nat.{ℕ, suc, _≤_, _<_}
+use Prim.Native.Nat.{ℕ, suc, _<_}
 use Rattle.model.specs.Words.{bit, word, noneFrom}
-use Rattle.model.specs.Constraints.{Automaton, move}
+use Rattle.model.specs.Constraints.{Automaton}
 use Rattle.automata.specs.StateSets.{Gathered}
-use Rattle.regular.specs.Paths.{Reach, Ends}
+use Rattle.regular.specs.Paths.{Reach}
 
 -- "a symbol word … has a bit at k or above": none of this row has
 pub record Alphabet (k : ℕ) (x : List ℕ) : Type 0 where
@@ -17,15 +17,7 @@ pub record Forward (A : Automaton) (x : List ℕ) (n : ℕ) (sets : List ℕ) : 
   pub sound : (i p : ℕ) → i < n → bit (word sets i) p ≡ true → Reach A x i p
   pub complete : (i p : ℕ) → i < n → Reach A x i p → bit (word sets i) p ≡ true
 
--- for each i from m on, set i has the states, of q, from which the places after the first i lead to an accepted end
-pub record Backward (A : Automaton) (q : ℕ) (x : List ℕ) (m : ℕ) (sets : List ℕ) : Type 0 where
-  pub sound : (i p : ℕ) → m ≤ i → i < 64 → bit (word sets i) p ≡ true → Ends A x i p
-  pub complete : (i p : ℕ) → m ≤ i → i < 64 → p < q → Ends A x i p → bit (word sets i) p ≡ true
-
 -- the lengths l below n that are allowed, and whose set has an accepting state p
 abbrev pub Lengths : ℕ → ℕ → ℕ → List ℕ → ℕ → Type 0
-Lengths n allowed accepting sets r = Gathered n (λ l t. (l ≡ t) × (bit allowed l ≡ true) × ((p : ℕ) × (bit accepting p ≡ true) × (bit (word sets l) p ≡ true))) r
-
--- the symbols a, of k, that are allowed, and by which a state p of the first set moves into the second
-abbrev pub Symbols : Automaton → ℕ → ℕ → ℕ → ℕ → ℕ → ℕ → Type 0
-Symbols A q k allowed before after r = Gathered k (λ a t. (a ≡ t) × (bit allowed a ≡ true) × ((p : ℕ) × (p < q) × (bit before p ≡ true) × (bit after (move A p a) ≡ true))) r
+Lengths n allowed accepting sets r = Gathered n
+    (λ l t. (l ≡ t) × (bit allowed l ≡ true) × ((p : ℕ) × (bit accepting p ≡ true) × (bit (word sets l) p ≡ true))) r

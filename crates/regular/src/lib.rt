@@ -1,140 +1,131 @@
 // Regular(X, D): automaton D accepts X. A symbol stays at a place if a state that the places before it lead to moves by it to a state from which the places
 // after it lead to an accepted end; a length stays if the places up to it lead to an accepting state. Sets of states are a `u32` each.
 //
-// Assumes nothing. `requires` asks what refusals 3, 5, 6 and 10 leave: at most 64 symbols, an automaton's whole bytes, and no bit at k or above at a place.
+// The states that the places lead to are found going forwards, and then, going backwards, each place is left the symbols that lie on a way to an accepted end.
+// A word of several symbols is asked by one symbol of each kind (crates/automata), and what states move to by the word last asked is kept in 32 sets, `tos`.
+// What the place gone through last was asked is lent as seven words, `last`, so that a level of the recursion hands on a set and nothing more.
+//
+// Assumes nothing. `requires` asks what refusals 3, 5, 6 and 10 leave: at most 64 symbols, an automaton's whole bytes, and no bit at k or above at a place;
+// the kinds of the automaton's symbols; and that the row is tidy.
 ghost use mathlib.Core.Path.{_≡_};
-ghost use mathlib.Core.Bool.{cond};
+ghost use mathlib.Core.Bool.{cond, true, false};
 ghost use mathlib.Core.List.{[], _∷_};
-ghost use Prim.Native.Nat.{_<_, _≤_, _-_};
-ghost use Rattle.model.specs.Words.{bit};
+ghost use Prim.Native.Nat.{_<_, _≤_, _+_, _*_, _/_, _%_};
+ghost use lib.Bits.{bitAnd};
+ghost use lib.ListN.{length};
+ghost use Rattle.model.specs.Words.{bit, word, noneFrom};
+ghost use Rattle.model.specs.Domains.{row};
 ghost use Rattle.model.specs.Constraints.{regular};
-ghost use Rattle.model.specs.Support.{narrowed};
-ghost use Rattle.rows.specs.Rows.{alone};
+ghost use Rattle.model.specs.Layout.{little, part};
 ghost use Rattle.automata.specs.Machine.{stateCount, machine, Whole};
-ghost use Rattle.automata.specs.StateSets.{Successors, Predecessors};
-ghost use Rattle.regular.specs.PlaceSets.{Alphabet, Forward, Backward, Lengths, Symbols};
+ghost use Rattle.automata.specs.StateSets.{Symbols, Steps, Forgotten};
+ghost use Rattle.automata.specs.Kinds.{Kinds, Firsts};
+ghost use Rattle.inplace.specs.InTable.{Tidy};
+ghost use Rattle.inplace.specs.InPlace.{InPlace};
+ghost use Rattle.regular.specs.PlaceSets.{Alphabet, Forward, Lengths};
+ghost use Rattle.regular.specs.Asks.{Asking, Turned, Forwards, Kept};
+ghost use Rattle.regular.specs.Backwards.{Going, Backward};
 
-// What the automaton was asked at a place, and its answer: the states that the set moves to by the word, or those that move into it.
+// What the automaton was asked at a place, and its answer: the states that the set moves to by the word. And the word of several symbols that was asked last,
+// with one symbol of each kind that it has.
 struct Asked {
     set: u32,
     symbols: u64,
     states: u32,
+    word: u64,
+    firsts: u64,
 }
 
-// What is asked before the first place: no set and no symbol, and so no state.
-const UNASKED: Asked = Asked {
-    set: 0,
-    symbols: 0,
-    states: 0,
-};
-
-// The sets that `backward` gives, and what its last level asked.
-struct Levels {
-    sets: [u32; 64],
-    last: Asked,
-}
-
-// The symbols that are allowed at a place, the states before it and those after it, and the symbols that it keeps.
-struct Place {
-    allowed: u64,
-    from: u32,
-    into: u32,
-    symbols: u64,
-}
-
-// The accepting states, where a string may end past i places.
-fn ending(lengths: u64, i: usize, accepting: u32) -> u32
-    requires { ⌜ i < 64 ⌝ }
-    ensures { λ r. ⌜ r ≡ cond (bit lengths i) accepting 0 ⌝ }
+// One symbol of each kind of the word. Where another word was asked last, what is kept of the states belongs to that one, and is forgotten.
+fn turn(kinds: &[u64], at: usize, tos: &mut [u32; 32], symbols: u64, word: u64, firsts: u64) -> u64
+    requires { ⌜ (at + 64 ≤ length (now kinds)) × (length (now tos) ≡ 32) × Firsts (now kinds) at word firsts ⌝ }
+    ensures { λ r. ⌜ Turned (now (kinds .entry)) at symbols firsts (now (tos .entry)) r (now (tos .exit)) ⌝ }
 {
-    if words::has(lengths, i) { accepting } else { 0 }
+    if symbols == word {
+        return firsts;
+    }
+    automata::forget(tos);
+    automata::firsts(kinds, at, symbols)
 }
 
 // The states that some state of the set moves to by some symbol of the word. Neighbouring places are often alike, and going through the moves is dear: if the
-// place before asked the same, its answer is given again.
-fn successors(d: &[u8], k: usize, set: u32, symbols: u64, last: Asked) -> u32
-    requires { ⌜ (k ≤ 64) × Whole k (now d) × Successors (machine k (now d)) (stateCount (now d)) k (last .set) (last .symbols) (last .states) ⌝ }
-    ensures { λ r. ⌜ Successors (machine k (now (d .entry))) (stateCount (now (d .entry))) k set symbols r ⌝ }
+// place before asked the same, its answer is given again. A word of one symbol is asked as it is, so that what is kept for the last of several stays.
+fn successors(
+    d: &[u8],
+    k: usize,
+    kinds: &[u64],
+    at: usize,
+    tos: &mut [u32; 32],
+    set: u32,
+    symbols: u64,
+    last: Asked,
+) -> Asked
+    requires { ⌜ Asking k (now d) (now kinds) at × (noneFrom k symbols ≡ true)
+        × Forwards k (now d) (now kinds) at (last .set) (last .symbols) (last .states) (last .word) (last .firsts) (now tos) ⌝ }
+    ensures { λ r. ⌜ Forwards k (now (d .entry)) (now (kinds .entry)) at (r .set) (r .symbols) (r .states) (r .word) (r .firsts) (now (tos .exit))
+        × (r .set ≡ set) × (r .symbols ≡ symbols) ⌝ }
 {
     if set == last.set {
         if symbols == last.symbols {
-            return last.states;
+            return last;
         }
     }
-    automata::successors(d, k, set, symbols)
-}
-
-// The states that move into the set by some symbol of the word; an answer is given again in the same way.
-fn predecessors(d: &[u8], k: usize, set: u32, symbols: u64, last: Asked) -> u32
-    requires { ⌜ (k ≤ 64) × Whole k (now d) × Predecessors (machine k (now d)) (stateCount (now d)) k (last .set) (last .symbols) (last .states) ⌝ }
-    ensures { λ r. ⌜ Predecessors (machine k (now (d .entry))) (stateCount (now (d .entry))) k set symbols r ⌝ }
-{
-    if set == last.set {
-        if symbols == last.symbols {
-            return last.states;
-        }
-    }
-    automata::predecessors(d, k, set, symbols)
-}
-
-// For each i, the states that the first i places lead to.
-fn forward(d: &[u8], k: usize, x: [u64; 64]) -> [u32; 64]
-    requires { ⌜ (k ≤ 64) × Whole k (now d) × Alphabet k x ⌝ }
-    ensures { λ r. ⌜ Forward (machine k (now (d .entry))) x 64 r ⌝ }
-{
-    let mut sets = [0u32; 64];
-    sets[0] = 1;
-    let mut last = UNASKED;
-    let mut i: usize = 0;
-    while i < 63 {
-        let set = sets[i];
-        let symbols = x[i + 1];
-        let states = successors(d, k, set, symbols, last);
-        last = Asked {
+    if !words::several(symbols) {
+        return Asked {
             set,
             symbols,
-            states,
-        };
-        sets[i + 1] = states;
-        i += 1;
-    }
-    sets
-}
-
-// From which states an accepted end is reachable with at most r symbols left, that is, past 63 - r places; and so for each smaller number of symbols. Where no
-// greater length is allowed nothing is left to read, and the sets further on are empty.
-fn backward(d: &[u8], k: usize, x: [u64; 64], r: usize) -> Levels
-    requires { ⌜ (k ≤ 64) × Whole k (now d) × Alphabet k x × (r < 64) ⌝ }
-    ensures { λ s. ⌜ Backward (machine k (now (d .entry))) (stateCount (now (d .entry))) x (63 - r) (s .sets)
-        × Predecessors (machine k (now (d .entry))) (stateCount (now (d .entry))) k (s .last .set) (s .last .symbols) (s .last .states) ⌝ }
-{
-    let i = 63 - r;
-    let here = ending(x[0], i, automata::accepting(d));
-    if words::none_from(x[0], i + 1) {
-        let mut sets = [0u32; 64];
-        sets[i] = here;
-        return Levels {
-            sets,
-            last: UNASKED,
+            states: automata::successors(d, k, set, symbols),
+            word: last.word,
+            firsts: last.firsts,
         };
     }
-    let mut behind = backward(d, k, x, r - 1);
-    let set = behind.sets[i + 1];
-    let symbols = x[i + 1];
-    let before = predecessors(d, k, set, symbols, behind.last);
-    let last = Asked {
+    let firsts = turn(kinds, at, tos, symbols, last.word, last.firsts);
+    Asked {
         set,
         symbols,
-        states: before,
+        states: automata::steps_to(d, k, firsts, tos, set),
+        word: symbols,
+        firsts,
+    }
+}
+
+// For each i up to the longest length, the states that the first i places lead to; and what was asked last.
+fn forward(
+    d: &[u8],
+    k: usize,
+    kinds: &[u64],
+    at: usize,
+    tos: &mut [u32; 32],
+    t: &[u64],
+    x: usize,
+    longest: usize,
+    sets: &mut [u32; 64],
+) -> Asked
+    requires { ⌜ Asking k (now d) (now kinds) at × Forgotten (now tos) × (64 * x + 64 ≤ length (now t)) × Alphabet k (row (now t) x) × (longest < 64)
+        × (length (now sets) ≡ 64) ⌝ }
+    ensures { λ r. ⌜ Forward (machine k (now (d .entry))) (row (now (t .entry)) x) (longest + 1) (now (sets .exit))
+        × Forwards k (now (d .entry)) (now (kinds .entry)) at (r .set) (r .symbols) (r .states) (r .word) (r .firsts) (now (tos .exit)) ⌝ }
+{
+    sets[0] = 1;
+    let mut last = Asked {
+        set: 0,
+        symbols: 0,
+        states: 0,
+        word: 0,
+        firsts: 0,
     };
-    behind.sets[i] = here | before;
-    behind.last = last;
-    behind
+    let mut i: usize = 0;
+    while i < longest {
+        last = successors(d, k, kinds, at, tos, sets[i], t[64 * x + i + 1], last);
+        sets[i + 1] = last.states;
+        i += 1;
+    }
+    last
 }
 
 // The lengths with which the places before lead to an accepting state.
-fn lengths(allowed: u64, accepting: u32, before: [u32; 64]) -> u64
-    ensures { λ r. ⌜ Lengths 64 allowed accepting before r ⌝ }
+fn lengths(allowed: u64, accepting: u32, before: &[u32; 64]) -> u64
+    ensures { λ r. ⌜ Lengths 64 allowed accepting (now (before .entry)) r ⌝ }
 {
     let mut rest = allowed;
     let mut r: u64 = 0;
@@ -147,6 +138,18 @@ fn lengths(allowed: u64, accepting: u32, before: [u32; 64]) -> u64
         rest -= alone;
     }
     r
+}
+
+// The accepting states of the set that is reached past i places, where a string may end there.
+fn ending(d: &[u8], ends: u64, i: usize, set: u32) -> u32
+    requires { ⌜ (i < 64) × (5 ≤ length (now d)) ⌝ }
+    ensures { λ r. ⌜ r ≡ cond (bit ends i) (bitAnd set (little (part 1 4 (now (d .entry))))) 0 ⌝ }
+{
+    if words::has(ends, i) {
+        set & automata::accepting(d)
+    } else {
+        0
+    }
 }
 
 // The symbols of a place by which a state reached before it moves to one from which an accepted end is reached after it. Only what the word allows is tried.
@@ -167,51 +170,168 @@ fn symbols(d: &[u8], k: usize, allowed: u64, before: u32, after: u32) -> u64
     r
 }
 
-// The same symbols; those of the place before are given again if it is like this one.
-fn kept(d: &[u8], k: usize, allowed: u64, from: u32, into: u32, last: Place) -> u64
-    requires { ⌜ (k ≤ 64) × Whole k (now d) × Symbols (machine k (now d)) (stateCount (now d)) k (last .allowed) (last .from) (last .into) (last .symbols) ⌝ }
-    ensures { λ r. ⌜ Symbols (machine k (now (d .entry))) (stateCount (now (d .entry))) k allowed from into r ⌝ }
+// What is remembered of the place that was asked last: the symbols that are allowed there, the states before it and those after it; what it keeps, the symbols
+// by which one of the first moves to one of the second, and the states of the first that do; and the word of several symbols that was asked last, as above.
+fn remember(
+    last: &mut [u64; 7],
+    allowed: u64,
+    from: u32,
+    into: u32,
+    symbols: u64,
+    states: u32,
+    word: u64,
+    firsts: u64,
+)
+    requires { ⌜ length (now last) ≡ 7 ⌝ }
+    ensures { λ _. ⌜ now (last .exit) ≡ (allowed ∷ from ∷ into ∷ symbols ∷ states ∷ word ∷ firsts ∷ []) ⌝ }
 {
-    if allowed == last.allowed {
-        if from == last.from {
-            if into == last.into {
-                return last.symbols;
+    last[0] = allowed;
+    last[1] = from as u64;
+    last[2] = into as u64;
+    last[3] = symbols;
+    last[4] = states as u64;
+    last[5] = word;
+    last[6] = firsts;
+}
+
+// What a place keeps: the states, and the symbols in `last`. Where the place that was asked last is like it, that is known. A state that moves on does so by a
+// symbol that is kept. Of a word of several symbols one of each kind is asked, and with it all of its kind are kept that are allowed.
+fn kept(
+    d: &[u8],
+    k: usize,
+    kinds: &[u64],
+    at: usize,
+    tos: &mut [u32; 32],
+    allowed: u64,
+    from: u32,
+    into: u32,
+    last: &mut [u64; 7],
+) -> u32
+    requires { ⌜ Asking k (now d) (now kinds) at × (noneFrom k allowed ≡ true) × Kept k (now d) (now kinds) at (now last) (now tos) ⌝ }
+    ensures { λ r. ⌜ Kept k (now (d .entry)) (now (kinds .entry)) at (now (last .exit)) (now (tos .exit))
+        × Steps (machine k (now (d .entry))) (stateCount (now (d .entry))) k allowed from into (word (now (last .exit)) 3) r ⌝ }
+{
+    if allowed == last[0] {
+        if from as u64 == last[1] {
+            if into as u64 == last[2] {
+                return last[4] as u32;
             }
         }
     }
-    symbols(d, k, allowed, from, into)
+    if !words::several(allowed) {
+        let symbols = symbols(d, k, allowed, from, into);
+        let states = automata::entering(d, k, from, into, symbols);
+        let word = last[5];
+        let firsts = last[6];
+        remember(last, allowed, from, into, symbols, states, word, firsts);
+        return states;
+    }
+    let firsts = turn(kinds, at, tos, allowed, last[5], last[6]);
+    let steps = automata::steps_back(d, k, firsts, tos, from, into);
+    let symbols = allowed & automata::all_of(kinds, at, steps.symbols);
+    let states = steps.states;
+    remember(last, allowed, from, into, symbols, states, allowed, firsts);
+    states
 }
 
-// One narrowing step. After a symbol at most 62 are left.
-pub fn narrow(d: &[u8], k: usize, x: [u64; 64]) -> [u64; 64]
-    requires { ⌜ (k ≤ 64) × Whole k (now d) × Alphabet k x ⌝ }
-    ensures { λ r. ⌜ r ≡ narrowed (alone 1 0 (machine k (now (d .entry)) ∷ [])) (regular 0 0) x ⌝ }
+// Keeps at the r places after place n of the table the symbols by which an accepted end is reachable: n has the row and the place in it, and the last of them
+// is at the longest accepted length. Gives the states that the places up to n lead to and from which it is; says in `changed` if a symbol was struck. Where an
+// accepted end is reachable from all that are reached past the next place, nothing is struck at this one or before it, and there is no more to do.
+fn backward(
+    d: &[u8],
+    k: usize,
+    kinds: &[u64],
+    at: usize,
+    tos: &mut [u32; 32],
+    t: &mut [u64],
+    n: usize,
+    r: usize,
+    sets: &[u32; 64],
+    ends: u64,
+    last: &mut [u64; 7],
+    changed: &mut bool,
+) -> u32
+    requires { ⌜ Asking k (now d) (now kinds) at × Going k (now d) (now t) (n / 64) (now sets) ends (n % 64 + r)
+        × Kept k (now d) (now kinds) at (now last) (now tos) × (now changed ≡ false) ⌝ }
+    ensures { λ s. ⌜ Backward (machine k (now (d .entry))) (now (t .entry)) (n / 64) (n % 64) (n % 64 + r) (now (t .exit)) s (now (changed .exit))
+        × Kept k (now (d .entry)) (now (kinds .entry)) at (now (last .exit)) (now (tos .exit)) ⌝ }
 {
-    let before = forward(d, k, x);
-    let after = backward(d, k, x, 62).sets;
-    let first = lengths(x[0], automata::accepting(d), before);
-    let mut r = [0u64; 64];
-    r[0] = first;
-    let mut last = Place {
-        allowed: 0,
-        from: 0,
-        into: 0,
-        symbols: 0,
-    };
-    let mut i: usize = 0;
-    while i < 63 {
-        let allowed = x[i + 1];
-        let from = before[i];
-        let into = after[i + 1];
-        let symbols = kept(d, k, allowed, from, into, last);
-        last = Place {
-            allowed,
-            from,
-            into,
-            symbols,
-        };
-        r[i + 1] = symbols;
-        i += 1;
+    let i = n % 64;
+    if r == 0 {
+        return ending(d, ends, i, sets[i]);
     }
-    r
+    let next = n + 1;
+    let into = backward(
+        d,
+        k,
+        kinds,
+        at,
+        tos,
+        t,
+        next,
+        r - 1,
+        sets,
+        ends,
+        last,
+        changed,
+    );
+    let from = sets[i];
+    if into == sets[i + 1] {
+        return from;
+    }
+    let states = kept(d, k, kinds, at, tos, t[next], from, into, last);
+    let struck = inplace::put(t, next, last[3]);
+    *changed = inplace::either(*changed, struck);
+    ending(d, ends, i, from) | states
+}
+
+// One narrowing step, in place. `at` is the index of the automaton's first word in the kinds.
+pub fn narrow(
+    d: &[u8],
+    k: usize,
+    kinds: &[u64],
+    at: usize,
+    t: &mut [u64],
+    x: usize,
+) -> inplace::Change
+    requires { ⌜ (k ≤ 64) × Whole k (now d) × Kinds (machine k (now d)) (stateCount (now d)) k (now kinds) at × (at + 64 ≤ length (now kinds))
+        × (64 * x + 64 ≤ length (now t)) × Alphabet k (row (now t) x) × Tidy (row (now t) x) ⌝ }
+    ensures { λ r. ⌜ InPlace (machine k (now (d .entry)) ∷ []) (regular 0 0) (x ∷ []) [] (now (t .entry)) (now (t .exit)) r ⌝ }
+{
+    let start = 64 * x;
+    let allowed = t[start];
+    let mut tos = [0u32; 32];
+    let mut sets = [0u32; 64];
+    let longest = words::highest(allowed);
+    let asked = forward(d, k, kinds, at, &mut tos, t, x, longest, &mut sets);
+    let ends = lengths(allowed, automata::accepting(d), &sets);
+    if ends == 0 {
+        return inplace::nothing();
+    }
+    let top = words::highest(ends);
+    let mut last = [0u64; 7];
+    last[5] = asked.word;
+    last[6] = asked.firsts;
+    let mut changed = false;
+    backward(
+        d,
+        k,
+        kinds,
+        at,
+        &mut tos,
+        t,
+        start,
+        top,
+        &sets,
+        ends,
+        &mut last,
+        &mut changed,
+    );
+    let shorter = inplace::shorten(t, x, ends);
+    inplace::Change {
+        left: true,
+        x: inplace::either(changed, shorter),
+        y: false,
+        z: false,
+    }
 }

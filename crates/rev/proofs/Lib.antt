@@ -1,2 +1,5 @@
--- The law of Rev.
+-- The laws of Rev.
 pub mod RevLaws
+pub mod TurnLaws
+pub mod RevSteps
+pub mod OneLength

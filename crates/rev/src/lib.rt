@@ -1,62 +1,152 @@
 // Rev(X, Y): X is Y read backwards.
 //
-// Assumes nothing, and requires nothing of its rows.
+// Assumes nothing. Requires two strings with tidy rows.
 ghost use mathlib.Core.Path.{_≡_};
-ghost use mathlib.Core.List.{[], _++_};
-ghost use mathlib.Core.Bool.{true};
-ghost use Prim.Native.Nat.{_<_, suc};
-ghost use lib.Bits.{bitAnd};
-ghost use Rattle.model.specs.Words.{bit, word};
+ghost use mathlib.Core.Logic.{_≢_};
+ghost use mathlib.Core.Bool.{false};
+ghost use mathlib.Core.List.{[], _∷_};
+ghost use Prim.Native.Nat.{_<_, _≤_, _+_, _*_};
+ghost use lib.ListN.{length};
+ghost use Rattle.model.specs.Words.{several};
+ghost use Rattle.model.specs.Domains.{row};
 ghost use Rattle.model.specs.Constraints.{rev};
-ghost use Rattle.model.specs.Support.{narrowed};
-ghost use Rattle.rows.specs.Rows.{alone};
-ghost use Rattle.rev.specs.Turned.{Backwards, Turning};
+ghost use Rattle.model.specs.Solutions.{textBit};
+ghost use Rattle.laws.specs.Supported.{Supports};
+ghost use Rattle.inplace.specs.InTable.{Tidy, Apart};
+ghost use Rattle.inplace.specs.InPlace.{InPlace};
+ghost use Rattle.rev.specs.Turned.{Turn, Turns, Added, Mirrored, Common, Allowed, Widened, Pair};
 
-// The row of length l alone, with the first l places of y read backwards.
-fn backwards(y: [u64; 64], l: usize) -> [u64; 64]
-    requires { ⌜ l < 64 ⌝ }
-    ensures { λ r. ⌜ Backwards y l l r ⌝ }
+// How many places met, and whether one lost a symbol.
+struct Faced {
+    m: usize,
+    changed: bool,
+}
+
+// The places after a, up to l, become what they allow together with those after b read backwards, as far as that is something.
+fn turn(t: &mut [u64], a: usize, b: usize, l: usize) -> Faced
+    requires { ⌜ (a + l < length (now t)) × (b + l < length (now t)) × Apart a b l ⌝ }
+    ensures { λ r. ⌜ Turn (now (t .entry)) a b l (now (t .exit)) (r .m) (r .changed) ⌝ }
 {
-    let mut r = [0u64; 64];
-    r[0] = words::singleton(l);
+    let mut m: usize = 0;
+    let mut changed = false;
+    while m < l {
+        let w = t[a + m + 1] & t[b + l - m];
+        if w == 0 {
+            return Faced { m, changed };
+        }
+        changed = inplace::either(changed, inplace::put(t, a + m + 1, w));
+        m += 1;
+    }
+    Faced { m, changed }
+}
+
+// Whether the places after a, up to l, each allow a symbol together with those after b read backwards.
+fn turns(t: &[u64], a: usize, b: usize, l: usize) -> bool
+    requires { ⌜ (a + l < length (now t)) × (b + l < length (now t)) ⌝ }
+    ensures { λ r. ⌜ Turns (now (t .entry)) a b l r ⌝ }
+{
     let mut i: usize = 0;
     while i < l {
-        r[i + 1] = y[l - i];
+        if t[a + i + 1] & t[b + l - i] == 0 {
+            return false;
+        }
         i += 1;
     }
-    r
+    true
 }
 
-// The row r, and what y read backwards leaves of x at a length l that both rows allow.
-fn widen(r: [u64; 64], x: [u64; 64], y: [u64; 64], l: usize) -> [u64; 64]
-    requires { ⌜ (l < 64) × (bit (bitAnd (word x 0) (word y 0)) l ≡ true) ⌝ }
-    ensures { λ s. ⌜ (Turning x y l r → Turning x y (suc l) s) ⌝ }
+// Adds to a row's places, up to l, what the places after a allow together with those after b read backwards.
+fn add(r: &mut [u64; 64], t: &[u64], a: usize, b: usize, l: usize)
+    requires { ⌜ (l < 64) × (a + l < length (now t)) × (b + l < length (now t)) × (length (now r) ≡ 64) ⌝ }
+    ensures { λ _. ⌜ Added (now (t .entry)) a b l (now (r .entry)) l (now (r .exit)) ⌝ }
 {
-    rows::join(rows::trim(rows::meet(x, backwards(y, l))), r)
+    let mut i: usize = 0;
+    while i < l {
+        r[i + 1] = r[i + 1] | (t[a + i + 1] & t[b + l - i]);
+        i += 1;
+    }
 }
 
-// What y read backwards leaves of x.
-fn half(x: [u64; 64], y: [u64; 64]) -> [u64; 64]
-    ensures { λ r. ⌜ Turning x y 64 r ⌝ }
+// Adds to a row what the strings of x use that have l symbols and are a string of y read backwards.
+fn widen(r: &mut [u64; 64], t: &[u64], x: usize, y: usize, l: usize)
+    requires { ⌜ Allowed (now t) x y l × (length (now r) ≡ 64) ⌝ }
+    ensures { λ _. ⌜ Widened (now (t .entry)) x y l (now (r .entry)) (now (r .exit)) ⌝ }
 {
-    let lengths = x[0] & y[0];
+    let a = 64 * x;
+    let b = 64 * y;
+    if turns(t, a, b, l) {
+        add(r, t, a, b, l);
+        r[0] = r[0] | words::singleton(l);
+    }
+}
+
+// What y read backwards leaves of x, where both have these lengths.
+fn half(t: &[u64], x: usize, y: usize, ls: u64) -> [u64; 64]
+    requires { ⌜ (64 * x + 64 ≤ length (now t)) × (64 * y + 64 ≤ length (now t)) × Common (now t) x y ls ⌝ }
+    ensures { λ r. ⌜ Supports (Mirrored (row (now (t .entry)) x) (row (now (t .entry)) y) 0) textBit 64 r ⌝ }
+{
     let mut r = [0u64; 64];
-    let mut l: usize = 0;
-    while l < 64 {
-        if words::has(lengths, l) {
-            let wider = widen(r, x, y, l);
-            r = wider;
-        }
-        l += 1;
+    let mut rest = ls;
+    while rest != 0 {
+        let l = words::lowest(rest);
+        widen(&mut r, t, x, y, l);
+        rest = rest - words::singleton(l);
     }
     r
+}
+
+// The step where the word of the lengths that both allow has one bit, in place.
+fn one_length(t: &mut [u64], x: usize, y: usize, ls: u64) -> inplace::Change
+    requires { ⌜ Pair (now t) x y ls × (several ls ≡ false) ⌝ }
+    ensures { λ r. ⌜ InPlace [] (rev 0 1) (x ∷ y ∷ []) [] (now (t .entry)) (now (t .exit)) r ⌝ }
+{
+    let l = words::highest(ls);
+    let of_x = turn(t, 64 * x, 64 * y, l);
+    if of_x.m < l {
+        return inplace::nothing();
+    }
+    let of_y = turn(t, 64 * y, 64 * x, l);
+    let shorter_x = inplace::shorten(t, x, ls);
+    let shorter_y = inplace::shorten(t, y, ls);
+    inplace::Change {
+        left: true,
+        x: inplace::either(of_x.changed, shorter_x),
+        y: inplace::either(of_y.changed, shorter_y),
+        z: false,
+    }
+}
+
+// The step where both allow these lengths: what they leave of either side is found first, and then written.
+fn any_length(t: &mut [u64], x: usize, y: usize, ls: u64) -> inplace::Change
+    requires { ⌜ Pair (now t) x y ls ⌝ }
+    ensures { λ r. ⌜ InPlace [] (rev 0 1) (x ∷ y ∷ []) [] (now (t .entry)) (now (t .exit)) r ⌝ }
+{
+    let of_x = half(t, x, y, ls);
+    if of_x[0] == 0 {
+        return inplace::nothing();
+    }
+    let of_y = half(t, y, x, ls);
+    let changed_x = inplace::replace(t, x, &of_x, 0);
+    let changed_y = inplace::replace(t, y, &of_y, 0);
+    inplace::Change {
+        left: true,
+        x: changed_x,
+        y: changed_y,
+        z: false,
+    }
 }
 
 // One narrowing step: Y is also X read backwards, so either row is narrowed by the other in the same way.
-pub fn narrow(x: [u64; 64], y: [u64; 64]) -> rows::Pair
-    ensures { λ r. ⌜ r .x ++ r .y ≡ narrowed (alone 2 0 []) (rev 0 1) (x ++ y) ⌝ }
+pub fn narrow(t: &mut [u64], x: usize, y: usize) -> inplace::Change
+    requires { ⌜ (64 * x + 64 ≤ length (now t)) × (64 * y + 64 ≤ length (now t)) × (y ≢ x) × Tidy (row (now t) x) × Tidy (row (now t) y) ⌝ }
+    ensures { λ r. ⌜ InPlace [] (rev 0 1) (x ∷ y ∷ []) [] (now (t .entry)) (now (t .exit)) r ⌝ }
 {
-    let of_x = half(x, y);
-    let of_y = half(y, x);
-    rows::Pair { x: of_x, y: of_y }
+    let common = t[64 * x] & t[64 * y];
+    if common == 0 {
+        return inplace::nothing();
+    }
+    if words::several(common) {
+        return any_length(t, x, y, common);
+    }
+    one_length(t, x, y, common)
 }

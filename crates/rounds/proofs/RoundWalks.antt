@@ -7,11 +7,11 @@ use mathlib.Core.List.{List, map}
 use Prim.Native.Nat.{ℕ, _+_, _*_, _≤_, _<_}
 use native.Mathlib.Omega.{arith}
 use lib.ListN.{length, getD, length-map}
-use lib.Seq.{take-all}
 use Rattle.model.specs.Lists.{from, upto}
 use Rattle.model.specs.Words.{size}
+use Rattle.model.specs.Domains.{row}
 use Rattle.model.specs.Constraints.{Problem, Constraint, always, width}
-use Rattle.model.specs.Support.{struck}
+use Rattle.model.specs.Support.{narrowed, struck}
 use Rattle.model.specs.Rounds.{steps, run, round, Settled, after, settling, settled}
 use Rattle.laws.specs.Inclusion.{Below}
 use Rattle.laws.specs.Lent.{lendable}
@@ -22,9 +22,9 @@ use Rattle.laws.proofs.CallLaws.{lendable-length, lendable-below}
 use Rattle.layout.specs.declared.Parts.{Parts}
 use Rattle.format.specs.Accepting.{problemIn}
 use Rattle.format.proofs.ContentLaws.{Counts}
-use Rattle.steps.specs.Step.{Step}
-use Rattle.list.specs.Listed.{Ran}
-use Rattle.list.proofs.StepWalkLaws.{Walked, walk-step, walk-lent, ran-walk}
+use Rattle.rows.specs.Rows.{trimmed, stored}
+use Rattle.inplace.proofs.Tidied.{trim-placed}
+use Rattle.list.proofs.StepWalkLaws.{Walked, walk-step, walk-lent, walk-ran}
 
 module _ (P : Problem) where
   -- the steps of the first walk: trimming each string
@@ -40,15 +40,9 @@ module _ (P : Problem) where
   trims-at x l = let e : x ≡ 0 + x = omega arith in ap always e ∙ sym (from-getD always 0 (P .strings) x (always 0) l)
 
   -- both walks to their ends are a round
-  walks-round : (T : List ℕ) (x : ℕ) (U : List ℕ) (n j : ℕ) (W : List ℕ) (k : ℕ) → x ≡ P .strings → j ≡ length (P .constraints)
-      → Walked P trims T 0 x U n → Walked P (P .constraints) U n j W k → (W ≡ round P T) × (k + size W ≡ size T)
+  walks-round : (T : List ℕ) (x : ℕ) (U W : List ℕ) → x ≡ P .strings → Walked P trims T x U → W ≡ run P (P .constraints) U → W ≡ round P T
   unfolding round steps
-  walks-round T x U n j W k ex ej v w =
-      let whole : U ≡ run P trims T = v .table ∙ ap (λ (ds : List Constraint). run P ds T) (take-all x trims (omega (arith, trims-length))) in (
-        w .table ∙ ap (λ (ds : List Constraint). run P ds U) (take-all j (P .constraints) (omega arith)) ∙ ap (run P (P .constraints)) whole
-            ∙ sym (run-append P trims (P .constraints) T),
-        omega (arith, v .count, w .count),
-      )
+  walks-round T x U W e v w = w ∙ ap (run P (P .constraints)) (walk-ran P trims T x U (omega (arith, trims-length)) v) ∙ sym (run-append P trims (P .constraints) T)
 
   -- ---- round after round
 
@@ -67,84 +61,77 @@ module _ (P : Problem) where
     table = refl;
   }
 
-  module _ (T U W : List ℕ) (n k : ℕ) (is : W ≡ round P U) (count : k + size W ≡ size U) (b : Begins T U n) where
+  module _ (T U W : List ℕ) (n : ℕ) (is : W ≡ round P U) (b : Begins T U n) where
     below : Below W U
     unfolding round
     below = below-trans (below-of-eq is) (run-below P (steps P) U)
 
-    went : struck U W ≡ k
-    went = omega (arith, struck-size U W below, count)
+    fewer : struck U W + size W ≡ size U
+    fewer = struck-size U W below
 
     from-here : settling P U ≡ after (struck U W) W (settling P W)
     from-here = settling-step P U ∙ ap (λ (Z : List ℕ). after (struck U Z) Z (settling P Z)) (sym is)
 
     -- a round that struck something is followed by another
-    begins-next : 0 < k → Begins T W (n + 1)
+    begins-next : (size W ≡ size U → ⊥) → Begins T W (n + 1)
     begins-next l = ⊎-elim
-        (λ z. absurd (omega (arith, z .0, went)))
+        (λ z. absurd (l (omega (arith, z .0, fewer))))
         (λ z. record {
           lent = lendable-below P W U below (b .lent);
-          few = omega (arith, b .few, count);
+          few = omega (arith, b .few, fewer, z .0);
           rounds = omega (arith, b .rounds, ap (λ (r : Settled). r .rounds) from-here, z .1);
           table = b .table ∙ ap (λ (r : Settled). r .table) from-here ∙ z .2;
         })
         (after-cases P (struck U W) W (settling P W))
 
     -- one that struck nothing is the last
-    ends : k ≡ 0 → (n ≡ settling P T .rounds) × (W ≡ settled P T)
-    ends l = ⊎-elim
+    ends : size W ≡ size U → (n ≡ settling P T .rounds) × (W ≡ settled P T)
+    ends e = ⊎-elim
         (λ z. (omega (arith, b .rounds, ap (λ (r : Settled). r .rounds) from-here, z .1), sym (b .table ∙ ap (λ (r : Settled). r .table) from-here ∙ z .2)))
-        (λ z. absurd (omega (arith, z .0, went)))
+        (λ z. absurd (omega (arith, z .0, fewer, e)))
         (after-cases P (struck U W) W (settling P W))
 
 -- ---- the turns of both walks, in round n
 
-module _ {file : List ℕ} {p : Parts} (h : Counts file p) {T U : List ℕ} {n : ℕ} (b : Begins (problemIn file p) T U n) where
+module _ {file : List ℕ} {p : Parts} (h : Counts file p) where
   abbrev P : Problem
   P = problemIn file p
 
-  module _ {x : ℕ} {X : List ℕ} {m : ℕ} (v : Walked P (trims P) U 0 x X m) where
+  -- a table that may be lent is short
+  pub lent-short : (T : List ℕ) → lendable P T ≡ true → length T ≤ 1040
+  lent-short T l = omega (arith, lendable-length P T l, h .most-words)
+
+  module _ {T U : List ℕ} {n : ℕ} (b : Begins P T U n) {x : ℕ} {X : List ℕ} (v : Walked P (trims P) U x X) where
+    pub trim-lent : lendable P X ≡ true
+    trim-lent = walk-lent P (trims P) U x X (b .lent) v
+
     trim-length : length X ≡ width P
-    trim-length = lendable-length P X (walk-lent P (trims P) U 0 x X m (b .lent) v)
+    trim-length = lendable-length P X trim-lent
 
     pub trim-room : x < p .s → 64 * x + 64 ≤ length X
     trim-room l = omega (arith, trim-length, h .strings)
 
-    pub trim-next : {W : List ℕ} {k : ℕ} → x < p .s
-        → ((Q : Problem) → length X ≡ width Q → x < Q .strings → Step Q (always x) X W k) → Walked P (trims P) U 0 (x + 1) W (m + k)
-    trim-next {W} {k} l f =
+    pub trim-next : {W : List ℕ} → x < p .s → W ≡ stored X x (trimmed (row X x)) → Walked P (trims P) U (x + 1) W
+    trim-next {W} l e =
         let q : x < P .strings = omega (arith, h .strings) in
-        walk-step P (trims P) U 0 x X m W k (omega (arith, trims-length P)) (subst (λ (d : Constraint). Step P d X W k) (trims-at P x q) (f P trim-length q)) v
+        walk-step P (trims P) U x X W (omega (arith, trims-length P))
+        (subst (λ (d : Constraint). W ≡ narrowed P d X) (trims-at P x q) (e ∙ trim-placed P x q X trim-length)) v
 
-    -- the count fits a `u32`
-    pub trim-few : m ≤ 66561
-    trim-few = omega (arith, v .count, b .few, h .most-words)
-
-    pub trim-lent : lendable P X ≡ true
-    trim-lent = walk-lent P (trims P) U 0 x X m (b .lent) v
-
-    module _ {W : List ℕ} {i : ℕ} (r : Ran P (P .constraints) X W i) where
-      w : Walked P (P .constraints) X m (length (P .constraints)) W (m + i)
-      w = ran-walk P (P .constraints) X m W i r
-
+    module _ {W : List ℕ} (r : W ≡ run P (P .constraints) X) where
       pub round-lent : lendable P W ≡ true
-      round-lent = walk-lent P (P .constraints) X m (length (P .constraints)) W (m + i) trim-lent w
-
-      -- the count still fits
-      pub round-few : m + i ≤ 66561
-      round-few = omega (arith, v .count, w .count, b .few, h .most-words)
+      round-lent = lendable-below P W X (below-trans (below-of-eq r) (run-below P (P .constraints) X)) trim-lent
 
       module _ (ex : x ≡ p .s) where
-        both : (W ≡ round P U) × (m + i + size W ≡ size U)
-        both = walks-round P U x X m (length (P .constraints)) W (m + i) (ex ∙ sym (h .strings)) refl v w
+        is : W ≡ round P U
+        is = walks-round P U x X W (ex ∙ sym (h .strings)) v r
 
         -- a round that struck something leaves fewer bits, and another follows
-        pub round-less : (m + i ≡ 0 → ⊥) → size W < size U
-        round-less l = omega (arith, both .1, l)
+        pub round-less : (size W ≡ size U → ⊥) → size W < size U
+        round-less l = let s = fewer P T U W n is b in omega (arith, l)
 
-        pub round-next : (m + i ≡ 0 → ⊥) → Begins P T W (n + 1)
-        round-next l = begins-next P T U W n (m + i) (both .0) (both .1) b (omega (arith, l))
+        pub round-next : (size W ≡ size U → ⊥) → Begins P T W (n + 1)
+        round-next l = begins-next P T U W n is b l
 
         -- one that struck nothing is the last
-        pub round-last : m + i ≡ 0 → (n ≡ settling P T .rounds) × (W ≡ settled P T)
-        round-last e = ends P T U W n (m + i) (both .0) (both .1) b e
+        pub round-last : size W ≡ size U → (n ≡ settling P T .rounds) × (W ≡ settled P T)
+        round-last e = ends P T U W n is b e

@@ -1,17 +1,31 @@
-// Rounds of steps on a lent table, until one strikes nothing.
+// Rounds of steps on a lent table, until one strikes nothing: the table then has as many bits as before the round.
 //
 // Assumes nothing. `requires` asks what refusals 1 to 10 leave.
 ghost use mathlib.Core.Path.{_≡_};
 ghost use mathlib.Core.Bool.{true};
 ghost use Prim.Native.Nat.{_*_, _≤_};
 ghost use lib.ListN.{length};
+ghost use Rattle.model.specs.Words.{size};
 ghost use Rattle.model.specs.Constraints.{Problem, width};
 ghost use Rattle.model.specs.Solutions.{WellFormed};
 ghost use Rattle.model.specs.Rounds.{everyValue, settling, settled};
 ghost use Rattle.laws.specs.Lent.{Stable, lendable};
 ghost use Rattle.format.specs.Accepting.{problemIn, Usable};
 
-// How many rounds there are, the last included. A variable that has lost its last value does not end them.
+// How many bits a table has.
+fn bits(table: &[u64]) -> u32
+    requires { ⌜ length (now table) ≤ 1040 ⌝ }
+    ensures { λ n. ⌜ n ≡ size (now (table .entry)) ⌝ }
+{
+    let mut n: u32 = 0;
+    for i in 0..table.len() {
+        n += words::count(table[i]);
+    }
+    n
+}
+
+// How many rounds there are, the last included, which is the first that leaves as many bits as there were: no step adds one, so it struck nothing. A variable
+// that has lost its last value does not end them.
 pub fn settle(file: &[u8], p: layout::Parts, table: &mut [u64]) -> u32
     requires { ⌜ Usable (now file) p × (lendable (problemIn (now file) p) (now table) ≡ true) ⌝ }
     ensures { λ r. ⌜ r ≡ settling (problemIn (now (file .entry)) p) (now (table .entry)) .rounds ⌝ }
@@ -19,15 +33,17 @@ pub fn settle(file: &[u8], p: layout::Parts, table: &mut [u64]) -> u32
 {
     let constraints = list::of_file(file, p);
     let mut n: u32 = 1;
+    let mut before = bits(table);
     let rounds = loop {
-        let mut struck: u32 = 0;
         for x in 0..p.s {
-            struck += steps::trim(table, x);
+            steps::trim_row(table, x);
         }
-        struck += list::own_steps(constraints, file, p, table);
-        if struck == 0 {
+        list::own_steps(constraints, file, p, table);
+        let after = bits(table);
+        if after == before {
             break n;
         }
+        before = after;
         n += 1;
     };
     rounds

@@ -1,4 +1,4 @@
--- The laws of rows by value: loops that fill a row; trimming; meets and joins; windows; rows and numbers as a table of their own.
+-- The laws of rows: lists by their indices; trimming; meets and joins; windows; rows and numbers as a table of their own; a row put into a table; names.
 pub mod Fill
 pub mod TrimLaws
 pub mod MeetLaws
@@ -8,5 +8,4 @@ pub mod Alone
 pub mod OneString
 pub mod TwoStrings
 pub mod StoreLaws
-pub mod Placed
-pub mod PlacedKinds
+pub mod NamedLaws

@@ -1,4 +1,4 @@
--- Trimming: the row that `trim` makes has the support of the row's own strings. Assumes nothing.
+-- Trimming: a row cut at the first place that allows nothing has the support of the row's own strings. Assumes nothing.
 use mathlib.Core.Path.{_≡_, refl, sym, ap, subst, _∙_}
 use mathlib.Core.Bool.{Bool, true, false, cond, _&&_, false≢true}
 use mathlib.Core.List.{List, [], _∷_, map}
@@ -33,7 +33,7 @@ pub trimmed-length : (r : List ℕ) → length (trimmed r) ≡ length r
 unfolding trimmed
 trimmed-length r = narrowed-length (alone 1 0 []) (always 0) r
 
-whole-row : (r : List ℕ) → length r ≡ 64 → row r 0 ≡ r
+pub whole-row : (r : List ℕ) → length r ≡ 64 → row r 0 ≡ r
 unfolding row
 whole-row r e = take-all 64 r (omega arith)
 
@@ -57,8 +57,6 @@ trimmed-supports r e bd =
 pub supported-in : (y v : List ℕ) → Words y → Supports (InRow y) textBit 64 v → (w : List ℕ) → InRow y w → InRow v w
 supported-in y v bd s w i = within-used v w (λ j h b e. let k = short-of y bd w i .length-short in s .complete j b (omega arith) w i e)
 
--- ---- a trimmed row stands for the same strings
-
 module _ (r : List ℕ) (ln : length r ≡ 64) (bd : Words r) where
   -- a trimmed row has no bit that the row lacks
   pub trimmed-bit : (i b : ℕ) → bit (word (trimmed r) i) b ≡ true → bit (word r i) b ≡ true
@@ -70,12 +68,6 @@ module _ (r : List ℕ) (ln : length r ≡ 64) (bd : Words r) where
           let h = ltb-false i 64 q in
           let l = trimmed-length r in
           absurd (false≢true (sym (zero-bit b) ∙ ap (λ (a : ℕ). bit a b) (sym (List·getD-eq-default (trimmed r) 0 (omega arith))) ∙ e))
-
-  pub of-trimmed : (w : List ℕ) → InRow (trimmed r) w → InRow r w
-  of-trimmed w i = record { length-bit = trimmed-bit 0 (length w) (i .length-bit); symbol-bits = λ j h. trimmed-bit (suc j) (getD w j 0) (i .symbol-bits j h) }
-
-  pub in-trimmed : (w : List ℕ) → InRow r w → InRow (trimmed r) w
-  in-trimmed w i = supported-in r (trimmed r) bd (trimmed-supports r ln bd) w i
 
 -- ---- strings of a row, made from a symbol at each place
 
@@ -103,7 +95,7 @@ made r n f e h =
       symbol-bits = λ j k. let k′ : j < n = subst (λ (m : ℕ). j < m) l k in subst (λ (a : ℕ). bit (word r (suc j)) a ≡ true) (sym (tabulated-word f n j k′)) (h j k′);
     }
 
--- ---- what the loops of `trim` make
+-- ---- the row cut at the first place that allows nothing
 
 -- the allowed lengths of at most m
 abbrev pub short : List ℕ → ℕ → ℕ

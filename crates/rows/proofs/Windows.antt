@@ -1,4 +1,4 @@
--- Parts of the strings of a row, by support: what `window` cuts out of a row that supports some strings supports their beginnings, or what is left of them.
+-- Parts of the strings of a row, by support: a window of a row that supports some strings supports their beginnings, or what is left of them.
 -- Assumes nothing.
 use mathlib.Core.Path.{_≡_, refl, sym, ap, subst, _∙_}
 use mathlib.Core.Bool.{Bool, true, false, false≢true}

@@ -1,3 +1,3 @@
--- The definitions that the contracts of `rows` and of the relations cite.
+-- The definitions that the contracts and the laws of rows in a table cite.
 pub mod Rows
 pub mod Parts

@@ -1,8 +1,7 @@
--- What the loops over a row's places ensure, place by place; index i is place i + 1. Assumes nothing.
+-- Parts of a row, place by place; index i is place i + 1. Assumes nothing.
 use mathlib.Core.Path.{_≡_}
 use mathlib.Core.List.{List}
 use Prim.Native.Nat.{ℕ, suc, _+_, _<_, _≤_}
-use lib.Bits.{bitAnd}
 use lib.ListN.{length}
 use Rattle.model.specs.Words.{word}
 
@@ -18,14 +17,6 @@ pub record Cut (row : List ℕ) (lengths top : ℕ) (r : List ℕ) : Type 0 wher
   pub first : word r 0 ≡ lengths
   pub kept : (i : ℕ) → i < top → word r (suc i) ≡ word row (suc i)
   pub gone : (i : ℕ) → top ≤ i → word r (suc i) ≡ 0
-
--- r is w, with its n places after off met with x's first n
-pub record Overlay (w x : List ℕ) (off n : ℕ) (r : List ℕ) : Type 0 where
-  pub size : length r ≡ 64
-  pub first : word r 0 ≡ word w 0
-  pub inside : (i : ℕ) → i < n → word r (suc (off + i)) ≡ bitAnd (word w (suc (off + i))) (word x (suc i))
-  pub before : (i : ℕ) → i < off → word r (suc i) ≡ word w (suc i)
-  pub after : (i : ℕ) → off + n ≤ i → word r (suc i) ≡ word w (suc i)
 
 -- r has these lengths, and t's n places after off
 pub record Window (t : List ℕ) (lengths off n : ℕ) (r : List ℕ) : Type 0 where

@@ -10,6 +10,7 @@ ghost use Rattle.model.specs.Reading.{pieces};
 ghost use Rattle.model.specs.Tree.{searching};
 ghost use Rattle.laws.specs.Traversal.{visit};
 ghost use Rattle.format.specs.Accepting.{problemIn, tableIn, Usable};
+ghost use Rattle.steps.specs.Step.{KindsIn};
 ghost use Rattle.index.specs.Index.{Index};
 ghost use Rattle.search.specs.Visits.{wordsIn, root, Standing, StandsIn, leftIn, GoesDown, GoesBack, Visits};
 ghost use Rattle.search.specs.Outcomes.{outcomeOf};
@@ -81,13 +82,20 @@ fn go_back(bytes: &[u8], room: &mut [u64], m: usize, path: Path) -> Visited
 }
 
 // Visits the current node: settles its table, and goes down into its first child, or back to the last value that waits.
-fn visit(file: &[u8], p: layout::Parts, ix: &[u64], room: &mut [u64], path: Path) -> Visited
+fn visit(
+    file: &[u8],
+    p: layout::Parts,
+    ix: &[u64],
+    kinds: &[u64],
+    room: &mut [u64],
+    path: Path,
+) -> Visited
     requires { ⌜ Usable (now file) p × (3 * wordsIn p ≤ length (now room)) × (length (now ix) ≡ 32) × Index (problemIn (now file) p) (now ix)
-        × StandsIn (now file) p path (now room) ⌝ }
+        × StandsIn (now file) p path (now room) × KindsIn (now file) p (now kinds) ⌝ }
     ensures { λ r. ⌜ Visits (now (file .entry)) p path (now (room .entry)) (now (room .exit)) r ⌝ }
 {
     let m = 64 * p.s + p.t;
-    if waiting::settle(file, p, ix, &mut room[..m], path.from) {
+    if waiting::settle(file, p, ix, kinds, &mut room[..m], path.from) {
         return go_down(room, m, path.depth);
     }
     let end = p.constraints_at;
@@ -99,12 +107,14 @@ fn explore(
     file: &[u8],
     p: layout::Parts,
     ix: &[u64],
+    kinds: &[u64],
     budget: u32,
     room: &mut [u64],
     answer: &mut [u64],
 ) -> Outcome
     requires { ⌜ Usable (now file) p × (3 * wordsIn p ≤ length (now room)) × (length (now answer) ≡ wordsIn p) × (length (now ix) ≡ 32)
-        × Index (problemIn (now file) p) (now ix) × Standing (now file) p (root p) (now room) (tableIn (now file) p) ⌝ }
+        × Index (problemIn (now file) p) (now ix) × Standing (now file) p (root p) (now room) (tableIn (now file) p)
+        × KindsIn (now file) p (now kinds) ⌝ }
     ensures { λ r. ⌜ record { outcome = outcomeOf r; table = now (answer .exit) }
         ≡ visit (problemIn (now (file .entry)) p) (now (answer .entry)) 0 budget
         (leftIn (now (file .entry)) p (now (room .entry)) (tableIn (now (file .entry)) p)) ⌝ }
@@ -119,7 +129,7 @@ fn explore(
     };
     while count < budget {
         count += 1;
-        match visit(file, p, ix, room, path) {
+        match visit(file, p, ix, kinds, room, path) {
             Visited::Solved => {
                 room::copy(&room[..m], answer);
                 return Outcome::Found(count);
@@ -145,10 +155,13 @@ pub fn search(
     ensures { λ r. ⌜ now (room .exit) ≡ replicate (3 * wordsIn p) 0 ++ drop (3 * wordsIn p) (now (room .entry)) ⌝ }
 {
     let m = 64 * p.s + p.t;
+    let all = 3 * m;
     let end = p.constraints_at;
     room::start(&file[..end], room, m);
     let ix = index::of_file(file, p);
-    let outcome = explore(file, p, &ix, budget, room, answer);
-    room::clear(&mut room[..3 * m]);
+    let mut kinds = [0u64; 512];
+    steps::kinds(file, p, &mut kinds);
+    let outcome = explore(file, p, &ix, &kinds, budget, room, answer);
+    room::clear(&mut room[..all]);
     outcome
 }

@@ -1,7 +1,11 @@
--- The laws of a step on a lent table: how many bits it strikes where rows and numbers are taken out, narrowed and put back, and which variables it leaves alone;
--- each kind's step; what the constraints of an accepted file name; automaton d of the file.
-pub mod CountLaws
-pub mod ChangeLaws
+-- The laws of steps on a table.
+pub mod ClearLaws
+pub mod NarrowsLaws
 pub mod KindLaws
-pub mod NamedLaws
 pub mod RegularTableLaws
+pub mod TidyLaws
+pub mod BlankLaws
+pub mod SizeLaws
+pub mod NamingLaws
+pub mod StepLaws
+pub mod TrimSteps

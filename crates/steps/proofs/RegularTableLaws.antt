@@ -1,5 +1,6 @@
 -- The step of Regular on a lent table, with an automaton that lies in the file. Assumes nothing.
 use mathlib.Core.Path.{_≡_, refl, sym, ap, subst, _∙_}
+use mathlib.Core.Logic.{_≢_, ⊎-elim, inr}
 use mathlib.Core.Bool.{true}
 use mathlib.Core.List.{List, [], _∷_}
 use Prim.Native.Nat.{ℕ, zero, suc, _+_, _-_, _*_, _≤_, _<_}
@@ -7,28 +8,27 @@ use native.Mathlib.Omega.{arith}
 use lib.Dec.{eqb}
 use lib.ListN.{length, take, drop}
 use lib.Seq.{drop-drop}
-use Rattle.model.specs.Words.{Words}
 use Rattle.model.specs.Domains.{row}
-use Rattle.model.specs.Constraints.{Problem, Automaton, variables, regular, width}
-use Rattle.model.specs.Support.{narrowed, struck}
+use Rattle.model.specs.Constraints.{Problem, regular, width}
 use Rattle.model.specs.Reading.{symbolsBelow}
-use Rattle.laws.specs.Inclusion.{Below}
 use Rattle.laws.specs.Lent.{lendable}
 use Rattle.laws.proofs.ListLaws.{and-true}
 use Rattle.laws.proofs.CallLaws.{lendable-length}
-use Rattle.rows.specs.Rows.{alone, stored}
-use Rattle.automata.specs.Machine.{machine, Whole}
+use Rattle.automata.specs.Machine.{stateCount, machine, Whole}
+use Rattle.automata.specs.Kinds.{AllHeld, AllKinds, Kinds, Separate}
+use Rattle.automata.proofs.KindLaws.{separate-kinds}
 use Rattle.automata.specs.Walk.{Held, Starts}
 use Rattle.regular.specs.PlaceSets.{Alphabet}
 use Rattle.regular.proofs.StateLaws.{row-alphabet}
-use Rattle.regular.proofs.RegularLaws.{regular-placed}
 use Rattle.layout.specs.declared.Parts.{Parts}
 use Rattle.layout.specs.Replied.{partsOf}
 use Rattle.format.specs.Accepting.{problemIn, Usable}
 use Rattle.format.proofs.ContentLaws.{usable-holds, usable-counts}
-use Rattle.steps.specs.Step.{Steps}
-use Rattle.steps.proofs.CountLaws.{below-narrowed}
-use Rattle.steps.proofs.KindLaws.{one-steps}
+use Rattle.inplace.specs.declared.Change.{Change}
+use Rattle.inplace.specs.InTable.{Tidy}
+use Rattle.inplace.specs.InPlace.{InPlace}
+use Rattle.steps.specs.Step.{Narrows, KindsIn}
+use Rattle.steps.proofs.KindLaws.{regular-narrows}
 
 drop-take : (r n : ℕ) (l : List ℕ) → drop r (take n l) ≡ take (n - r) (drop r l)
 drop-take zero n l = let e : n - 0 ≡ n = omega arith in ap (λ (k : ℕ). take k l) (sym e)
@@ -40,7 +40,8 @@ drop-take (suc r) (suc n) [] = take-nil (suc n - suc r)
     take-nil (suc k) = refl
 drop-take (suc r) (suc n) (a ∷ l) = let e : n - r ≡ suc n - suc r = omega arith in drop-take r n l ∙ ap (λ (k : ℕ). take k (drop r l)) e
 
-module _ (file : List ℕ) (p : Parts) (T : List ℕ) (x d : ℕ) (pre : Usable file p × (lendable (problemIn file p) T ≡ true) × (x < p .s) × (d < p .d)) where
+module _ (file : List ℕ) (p : Parts) (ks T : List ℕ) (x d : ℕ)
+    (pre : Usable file p × (lendable (problemIn file p) T ≡ true) × KindsIn file p ks × (x < p .s) × (d < p .d) × Tidy (row T x)) where
   abbrev P : Problem
   P = problemIn file p
 
@@ -55,11 +56,11 @@ module _ (file : List ℕ) (p : Parts) (T : List ℕ) (x d : ℕ) (pre : Usable 
   unfolding partsOf
   automaton-named =
       let h = usable-holds file p (pre .0) in
-      let l = pre .3 in
+      let l = pre .4 in
       (pre .0 .fits .symbols-most, record { count = p .d; automata = P .automata; read = h .machines; named = omega (arith, h .automata) })
 
   pub string-inside : 64 * x + 64 ≤ length T
-  string-inside = let n = usable-counts file p (pre .0) .strings in let l = lendable-length P T (pre .1) in let h = pre .2 in omega arith
+  string-inside = let n = usable-counts file p (pre .0) .strings in let l = lendable-length P T (pre .1) in let h = pre .3 in omega arith
 
   low : symbolsBelow (p .k) (p .s) T ≡ true
   unfolding lendable
@@ -68,7 +69,7 @@ module _ (file : List ℕ) (p : Parts) (T : List ℕ) (x d : ℕ) (pre : Usable 
       ap (λ (k : ℕ). symbolsBelow k (p .s) T) (sym (n .symbols)) ∙ ap (λ (s : ℕ). symbolsBelow (P .symbols) s T) (sym (n .strings))
       ∙ and-true (eqb (length T) (width P)) (symbolsBelow (P .symbols) (P .strings) T) (pre .1) .1
 
-  module _ (r : ℕ) (at : Starts (p .k) automata d r) (old : List ℕ) (loaded : old ≡ row T x) where
+  module _ (r : ℕ) (at : Starts (p .k) automata d r) where
     lent : drop r automata ≡ from-byte r
     lent =
         let n : p .end - p .«automata_at» - r ≡ p .end - (p .«automata_at» + r) = omega arith in
@@ -76,20 +77,39 @@ module _ (file : List ℕ) (p : Parts) (T : List ℕ) (x d : ℕ) (pre : Usable 
         ∙ ap (take (p .end - p .«automata_at» - r)) (drop-drop r (p .«automata_at») file)
         ∙ ap (λ (n : ℕ). take n (drop (p .«automata_at» + r) file)) n
 
-    pub machine-there : (p .k ≤ 64) × Whole (p .k) (from-byte r) × Alphabet (p .k) old
-    machine-there = (pre .0 .fits .symbols-most, subst (Whole (p .k)) lent (at .whole), subst (Alphabet (p .k)) (sym loaded) (row-alphabet (p .k) (p .s) T x low (pre .2)))
+    -- what the step asks but for its kinds
+    abbrev asks : List ℕ → ℕ → Type 0
+    asks own i = (p .k ≤ 64) × Whole (p .k) (from-byte r) × Kinds (machine (p .k) (from-byte r)) (stateCount (from-byte r)) (p .k) own i × (i + 64 ≤ length own)
+        × (64 * x + 64 ≤ length T) × Alphabet (p .k) (row T x) × Tidy (row T x)
 
-    module _ (new : List ℕ) (is : new ≡ narrowed (alone 1 0 (machine (p .k) (from-byte r) ∷ [])) (regular 0 0) old) where
-      pub regular-puts : (64 * x + 64 ≤ length T) × Below new old
-      regular-puts = (string-inside, below-narrowed _ _ old new is)
+    asks-by : (own : List ℕ) (i : ℕ) → Kinds (machine (p .k) (from-byte r)) (stateCount (from-byte r)) (p .k) own i → i + 64 ≤ length own → asks own i
+    asks-by own i k l = (pre .0 .fits .symbols-most, subst (Whole (p .k)) lent (at .whole), k, l, string-inside, row-alphabet (p .k) (p .s) T x low (pre .3), pre .5)
 
-      pub regular-steps : (U : List ℕ) (n : ℕ) → Words T → (U ≡ stored T x new) × (n ≡ struck old new) → Steps P (regular x d) T U (record { x = n; y = 0; z = 0 })
-      unfolding partsOf variables
-      regular-steps U n w put =
-          let s = usable-counts file p (pre .0) .strings in
-          let h = pre .2 in
-          let A : Automaton = machine (p .k) (from-byte r) in
-          let found = at .found (p .d) (P .automata) (usable-holds file p (pre .0) .machines) ∙ ap (machine (p .k)) lent in
-          let ln = lendable-length P T (pre .1) in
-          let placed = regular-placed P x d A (sym found) (omega arith) T ln new (is ∙ ap (narrowed (alone 1 0 (A ∷ [])) (regular 0 0)) loaded) in
-          one-steps P (regular x d) T U x n old new w refl ln (omega arith) loaded (below-narrowed _ _ old new is) put placed
+    -- by the kinds of the file's automata
+    pub machine-there : length ks ≢ 0 → asks ks (64 * d)
+    machine-there some = ⊎-elim (λ e. absurd (some e)) (λ g.
+        let h = pre .4 in
+        let m = pre .0 .fits .automata-most in
+        let z = g .size in
+        asks-by ks (64 * d) (subst (λ (b : List ℕ). Kinds (machine (p .k) b) (stateCount b) (p .k) ks (64 * d)) lent (g .all .each d r h at)) (omega arith)) (pre .2)
+
+    -- by each symbol alone
+    pub machine-alone : (own : List ℕ) → Separate own → asks own 0
+    machine-alone own w = let l = w .size in asks-by own 0 (separate-kinds own w (machine (p .k) (from-byte r)) (stateCount (from-byte r)) (p .k) (pre .0 .fits .symbols-most)) (omega arith)
+
+    pub regular-at-narrows : (U : List ℕ) (n : Change) → InPlace (machine (p .k) (from-byte r) ∷ []) (regular 0 0) (x ∷ []) [] T U n → Narrows P (regular x d) T U n
+    unfolding partsOf
+    regular-at-narrows U n s =
+        let e = usable-counts file p (pre .0) .strings in
+        let h = pre .3 in
+        let found = at .found (p .d) (P .automata) (usable-holds file p (pre .0) .machines) ∙ ap (machine (p .k)) lent in
+        regular-narrows P x d (machine (p .k) (from-byte r)) (sym found) (omega arith) T U (lendable-length P T (pre .1)) n s
+
+-- what the kinds of a file's automata ask, and that they are these
+module _ (file : List ℕ) (p : Parts) (u : Usable file p) where
+  pub kinds-asks : (p .k ≤ 64) × (p .d ≤ 8) × AllHeld (p .k) (p .d) (take (p .end - p .«automata_at») (drop (p .«automata_at») file))
+  unfolding partsOf
+  kinds-asks = (u .fits .symbols-most, u .fits .automata-most, record { automata = problemIn file p .automata; read = usable-holds file p u .machines })
+
+  pub kinds-are : (ks : List ℕ) → length ks ≡ 512 → AllKinds (p .k) (p .d) (take (p .end - p .«automata_at») (drop (p .«automata_at») file)) ks → KindsIn file p ks
+  kinds-are ks l a = inr (record { size = l; all = a })

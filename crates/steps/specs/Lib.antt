@@ -1,2 +1,3 @@
 -- The definitions that the contracts of `steps` cite.
 pub mod Step
+pub mod Names

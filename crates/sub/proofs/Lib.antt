@@ -1,8 +1,11 @@
--- The laws of Sub: two rows and a number as a table of their own; the longest string of X; the reach of a part; the strings of X and of Y at one start; the
--- union over the starts.
-pub mod PartRows
-pub mod TidyLaws
+-- The laws of Sub: the reach of a part; a tidy row's longest string; the rows of X and of Y at one start; two rows and a number as a table of their own;
+-- the choices of one start and of all; the turns of the loops; what each function ensures; the step in place.
 pub mod ReachLaws
+pub mod TidyLaws
 pub mod RowsAt
+pub mod PartRows
 pub mod StartLaws
 pub mod SubLaws
+pub mod Turns
+pub mod Steps
+pub mod NarrowLaws

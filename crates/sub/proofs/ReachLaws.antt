@@ -28,6 +28,12 @@ reach-mono off zero (suc k) h = omega arith
 reach-mono off (suc m) zero h = absurd (omega arith)
 reach-mono off (suc m) (suc k) h = omega arith
 
+-- so does an earlier one
+pub reach-later : (off k m : ℕ) → off ≤ k → reachOf off m ≤ reachOf k m
+unfolding reachOf
+reach-later off k zero h = omega arith
+reach-later off k (suc m) h = omega arith
+
 -- the definition's test, at the start after off symbols
 pub reach-test : (x y : List ℕ) (off : ℕ) → reaches x y (suc off) ≡ leb (reachOf off (length y)) (length x)
 unfolding reaches reachOf

@@ -1,25 +1,28 @@
--- One start, by support: Y's least length decides for X, X's greatest for Y, and the start stays if a choice is left. Assumes nothing.
+-- One start, by support: Y's least length decides for X, X's greatest for Y, and the start is left if a choice has it. Assumes nothing.
 use mathlib.Core.Path.{_≡_, refl, sym, ap, subst, _∙_}
 use mathlib.Core.Bool.{Bool, true, false, cond, _&&_, false≢true}
-use mathlib.Core.List.{List, [], _∷_, map}
-use Prim.Native.Nat.{ℕ, suc, _+_, _-_, _^_, _≤_, _<_}
+use mathlib.Core.List.{List, map}
+use Prim.Native.Nat.{ℕ, suc, _+_, _-_, _≤_, _<_}
 use native.Mathlib.Omega.{arith}
 use lib.Dec.{ltb, leb}
 use lib.ListN.{length, getD, take, drop, length-drop}
 use lib.Seq.{length-take-le, getD-take, getD-drop}
 use borrow.Author.Tests.{ltb-true, ltb-false, lt-ltb, leb-true, le-leb}
 use Rattle.model.specs.Lists.{upto}
-use Rattle.model.specs.Words.{bit, word, Words}
+use Rattle.model.specs.Words.{bit, word}
 use Rattle.model.specs.Solutions.{textBit}
 use Rattle.words.specs.Ends.{Lowest}
 use Rattle.rows.proofs.Fill.{tabulated-length, tabulated-word}
 use Rattle.rows.proofs.TrimLaws.{made}
 use Rattle.laws.specs.Supported.{InRow, Supports}
 use Rattle.laws.proofs.ListLaws.{and-true}
-use Rattle.laws.proofs.WordLaws.{pow-self, pow-only}
 use Rattle.laws.proofs.Supports.{moved-support}
-use Rattle.sub.specs.Substrings.{reachOf, Holds, Fitting, Longest, Part, PartAt, Supported}
-use Rattle.rows.proofs.ChoiceLaws.{some-choice, no-choice}
+use Rattle.rows.proofs.MeetLaws.{and-bit}
+use Rattle.inplace.proofs.Tables.{bit-some}
+use Rattle.sub.specs.Substrings.{reachOf, Alive, Fitting}
+use Rattle.sub.proofs.PartRows.{Part}
+use Rattle.sub.proofs.TidyLaws.{Longest}
+use Rattle.sub.proofs.RowsAt.{Holds}
 use Rattle.sub.proofs.ReachLaws.{reach-end, reach-some, reach-mono}
 
 -- ---- a string with another laid over it after off symbols
@@ -34,7 +37,8 @@ laid-inside off v w j h =
     rw (le-leb off (off + j) (omega arith), lt-ltb (off + j) (off + length v) (omega arith), e)
 
 -- its symbol at j is one of v's, or w's own
-laid-cases : (off : ℕ) (v w : List ℕ) (P : ℕ → ℕ → Type 0) → ((j : ℕ) → j < length v → P (off + j) (getD v j 0)) → (j : ℕ) → P j (getD w j 0) → P j (laid-over off v w j)
+laid-cases : (off : ℕ) (v w : List ℕ) (P : ℕ → ℕ → Type 0) → ((j : ℕ) → j < length v → P (off + j) (getD v j 0)) → (j : ℕ) → P j (getD w j 0)
+    → P j (laid-over off v w j)
 unfolding laid-over
 laid-cases off v w P inside j outside = go (leb off j && ltb j (off + length v)) refl
   where
@@ -47,11 +51,16 @@ laid-cases off v w P inside j outside = go (leb off j && ltb j (off + length v))
         subst (λ (i : ℕ). P i (getD v (j - off) 0)) e (inside (j - off) (omega arith))
     go false q = outside
 
-module _ (x y : List ℕ) (n off : ℕ) where
-  -- n does not allow the start
-  pub start-barred : bit n (suc off) ≡ false → (v : Part) → PartAt x y n off v → ⊥
-  start-barred e v p = false≢true (sym e ∙ ap (bit n) (sym (p .starts)) ∙ p .in-start)
+-- the part starts after off symbols, and is found there
+pub record PartAt (x y : List ℕ) (n off : ℕ) (v : Part) : Type 0 where
+  pub in-whole : InRow x (v .whole)
+  pub in-part : InRow y (v .part)
+  pub in-start : bit n (v .start) ≡ true
+  pub starts : v .start ≡ suc off
+  pub reached : reachOf off (length (v .part)) ≤ length (v .whole)
+  pub found : (j : ℕ) → j < length (v .part) → getD (v .whole) (off + j) 0 ≡ getD (v .part) j 0
 
+module _ (x y : List ℕ) (n off : ℕ) where
   module _ (least : ℕ) (low : Lowest (word y 0) least) where
     at-least : (w : List ℕ) → InRow y w → least ≤ length w
     at-least w i = go (ltb (length w) least) refl
@@ -79,7 +88,8 @@ module _ (x y : List ℕ) (n off : ℕ) where
         let k = h .long in
         let ld = length-drop off w in
         let l : length (take least (drop off w)) ≡ least = length-take-le least (drop off w) (omega arith) in
-        let at : (j : ℕ) → j < least → getD w (off + j) 0 ≡ getD (take least (drop off w)) j 0 = λ j g. sym (getD-take least (drop off w) j 0 g ∙ getD-drop off w j 0) in
+        let at : (j : ℕ) → j < least → getD w (off + j) 0 ≡ getD (take least (drop off w)) j 0 = λ j g.
+        sym (getD-take least (drop off w) j 0 g ∙ getD-drop off w j 0) in
         record {
           in-whole = h .inside;
           in-part = record {
@@ -96,35 +106,54 @@ module _ (x y : List ℕ) (n off : ℕ) where
     in-holds v p = record {
       inside = p .in-whole;
       long = least-reached v p;
-      allowed = λ j h. let k = at-least (v .part) (p .in-part) in ap (bit (word y (suc j))) (p .found j (omega arith)) ∙ p .in-part .symbol-bits j (omega arith);
+      allowed = λ j h.
+          let k = at-least (v .part) (p .in-part) in
+          ap (bit (word y (suc j))) (p .found j (omega arith)) ∙ p .in-part .symbol-bits j (omega arith);
     }
 
-    wholes-supported : bit n (suc off) ≡ true → (r : List ℕ) → Supports (Holds x y off least (reachOf off least)) textBit 64 r → Supports (PartAt x y n off) (λ v. textBit (v .whole)) 64 r
+    pub wholes-supported : bit n (suc off) ≡ true → (r : List ℕ) → Supports (Holds x y off least (reachOf off least)) textBit 64 r
+        → Supports (PartAt x y n off) (λ v. textBit (v .whole)) 64 r
     unfolding first-part
     wholes-supported e r = moved-support (Holds x y off least (reachOf off least)) (PartAt x y n off) textBit (λ v. textBit (v .whole)) 64 r
         (λ w h. (first-part w, of-holds e w h, λ i k. refl)) (λ v p. (v .whole, in-holds v p, λ i k. refl))
 
-    -- no string is left of X
-    pub start-empty : bit n (suc off) ≡ true → (r : List ℕ) → Supports (Holds x y off least (reachOf off least)) textBit 64 r → word r 0 ≡ 0 → (v : Part) → PartAt x y n off v → ⊥
-    start-empty e r s = no-choice (PartAt x y n off) (λ v. v .whole) r (wholes-supported e r s)
-
     -- ---- Y
 
     module _ (top : ℕ) (longest : Longest x top) where
-      -- X is too short
-      pub start-past : top < reachOf off least → (v : Part) → PartAt x y n off v → ⊥
-      start-past h v p =
+      -- a start that a choice has is left
+      pub choice-alive : (v : Part) → PartAt x y n off v → Alive x y off least top
+      choice-alive v p =
           let k = least-reached v p in
           let m = longest .most (v .whole) (p .in-whole) in
-          omega arith
+          let a = at-least (v .part) (p .in-part) in
+          let r = p .reached in
+          let g = reach-end off (length (v .part)) in
+          record {
+            far = omega arith;
+            filled = λ j h. bit-some _ (getD (v .part) j 0) (and-bit (word x (suc (off + j))) (word y (suc j)) (getD (v .part) j 0)
+                (ap (bit (word x (suc (off + j)))) (sym (p .found j (omega arith))) ∙ p .in-whole .symbol-bits (off + j) (omega arith))
+                (p .in-part .symbol-bits j (omega arith)));
+          }
+
+      pub in-fits : (v : Part) → PartAt x y n off v → Fitting x y off top (v .part)
+      in-fits v p =
+          let m = longest .most (v .whole) (p .in-whole) in
+          let k = p .reached in
+          let r = reach-end off (length (v .part)) in
+          record {
+            inside = p .in-part;
+            short = omega arith;
+            allowed = λ j h. ap (bit (word x (suc (off + j)))) (sym (p .found j h)) ∙ p .in-whole .symbol-bits (off + j) (omega arith);
+          }
 
       module _ (e : bit n (suc off) ≡ true) (far : reachOf off least ≤ top) where
-        around : List ℕ → List ℕ
+        pub around : List ℕ → List ℕ
         around v = map (laid-over off v (longest .string)) (upto top)
 
         around-in : (v : List ℕ) → Fitting x y off top v → InRow x (around v)
         unfolding around
-        around-in v f = made x top (laid-over off v (longest .string)) (subst (λ (l : ℕ). bit (word x 0) l ≡ true) (longest .long) (longest .inside .length-bit))
+        around-in v f = made x top (laid-over off v (longest .string))
+            (subst (λ (l : ℕ). bit (word x 0) l ≡ true) (longest .long) (longest .inside .length-bit))
             (λ j h. laid-cases off v (longest .string) (λ i a. bit (word x (suc i)) a ≡ true) (λ i k. f .allowed i k) j
             (longest .inside .symbol-bits j (subst (λ (l : ℕ). j < l) (sym (longest .long)) h)))
 
@@ -143,7 +172,7 @@ module _ (x y : List ℕ) (n off : ℕ) where
                 let d : least ≡ length v = omega arith in
                 subst (λ (l : ℕ). reachOf off l ≤ top) d far
 
-        of-fits : (v : List ℕ) → Fitting x y off top v → PartAt x y n off (record { whole = around v; part = v; start = suc off })
+        pub of-fits : (v : List ℕ) → Fitting x y off top v → PartAt x y n off (record { whole = around v; part = v; start = suc off })
         unfolding around
         of-fits v f =
             let k = f .short in
@@ -155,39 +184,3 @@ module _ (x y : List ℕ) (n off : ℕ) where
               reached = subst (λ (l : ℕ). reachOf off (length v) ≤ l) (sym (tabulated-length (laid-over off v (longest .string)) top)) (around-reached v f);
               found = λ j h. tabulated-word (laid-over off v (longest .string)) top (off + j) (omega arith) ∙ laid-inside off v (longest .string) j h;
             }
-
-        in-fits : (v : Part) → PartAt x y n off v → Fitting x y off top (v .part)
-        in-fits v p =
-            let m = longest .most (v .whole) (p .in-whole) in
-            let k = p .reached in
-            let r = reach-end off (length (v .part)) in
-            record {
-              inside = p .in-part;
-              short = omega arith;
-              allowed = λ j h. ap (bit (word x (suc (off + j)))) (sym (p .found j h)) ∙ p .in-whole .symbol-bits (off + j) (omega arith);
-            }
-
-        parts-supported : (r : List ℕ) → Supports (Fitting x y off top) textBit 64 r → Supports (PartAt x y n off) (λ v. textBit (v .part)) 64 r
-        parts-supported r = moved-support (Fitting x y off top) (PartAt x y n off) textBit (λ v. textBit (v .part)) 64 r
-            (λ v f. (record { whole = around v; part = v; start = suc off }, of-fits v f, λ i k. refl)) (λ v p. (v .part, in-fits v p, λ i k. refl))
-
-        -- ---- N
-
-        start-supported : (v : Part) × PartAt x y n off v → Supports (PartAt x y n off) (λ v i. 2 ^ (v .start)) 1 (2 ^ suc off ∷ [])
-        start-supported some = record {
-          count = refl;
-          sound = λ i b h k.
-              let z : i ≡ 0 = omega arith in
-              let d : b ≡ suc off = pow-only (suc off) b (ap (λ (j : ℕ). bit (word (2 ^ suc off ∷ []) j) b) (sym z) ∙ k) in
-              (some .0, some .1, subst (λ (a : ℕ). bit (2 ^ (some .0 .start)) a ≡ true) (some .1 .starts ∙ sym d) (pow-self (some .0 .start)));
-          complete = λ i b h v p k.
-              let z : i ≡ 0 = omega arith in
-              ap (λ (j : ℕ). bit (word (2 ^ suc off ∷ []) j) b) z ∙ ap (λ (a : ℕ). bit (2 ^ a) b) (sym (p .starts)) ∙ k;
-        }
-
-        -- the start's rows and its bit
-        pub start-right : (a b : List ℕ) → Words a → 0 < word a 0 → Supports (Holds x y off least (reachOf off least)) textBit 64 a → Supports (Fitting x y off top) textBit 64 b
-            → Supported (PartAt x y n off) a b (2 ^ suc off)
-        start-right a b bd h sa sb =
-            let s = wholes-supported e a sa in
-            record { wholes = s; parts = parts-supported b sb; starts = start-supported (some-choice (PartAt x y n off) (λ v. v .whole) a s bd h) }

@@ -1,52 +1,16 @@
 // Sub(X, Y, N): Y is the part of X starting at place N.
 //
-// Assumes nothing, and requires nothing of its rows. A step is a union over the starts N; `off` is N - 1, the symbols of X before the part.
+// Assumes nothing. A step in place on rows that are tidy. `off` is N - 1, the symbols of X before the part; a start is left where Y's least length fits there.
 ghost use mathlib.Core.Path.{_≡_};
-ghost use mathlib.Core.Bool.{true};
-ghost use mathlib.Core.List.{[], _∷_, _++_};
-ghost use Prim.Native.Nat.{suc, _+_, _≤_, _<_};
-ghost use lib.Bits.{bitOr};
-ghost use lib.ListN.{replicate};
-ghost use Rattle.model.specs.Words.{bit, word};
+ghost use mathlib.Core.Logic.{_≢_};
+ghost use mathlib.Core.List.{[], _∷_};
+ghost use Prim.Native.Nat.{_+_, _*_, _≤_, _<_};
+ghost use lib.ListN.{length, replicate};
+ghost use Rattle.model.specs.Domains.{row};
 ghost use Rattle.model.specs.Constraints.{sub};
-ghost use Rattle.model.specs.Solutions.{textBit};
-ghost use Rattle.model.specs.Support.{narrowed};
-ghost use Rattle.laws.specs.Supported.{Supports, OfKinds};
-ghost use Rattle.words.specs.Ends.{Lowest};
-ghost use Rattle.rows.specs.Rows.{alone, joined};
-ghost use Rattle.sub.specs.Substrings.{reachOf, Holds, Fitting, PartAt, Longest, Supported};
-
-// The rows of X and Y, and the word of N.
-pub struct Rows {
-    pub x: [u64; 64],
-    pub y: [u64; 64],
-    pub n: u64,
-}
-
-// The rows and the word that allow nothing.
-fn nothing() -> Rows
-    ensures { λ r. ⌜ (r .x ≡ replicate 64 0) × (r .y ≡ replicate 64 0) × (r .n ≡ 0) ⌝ }
-{
-    let none = [0u64; 64];
-    Rows {
-        x: none,
-        y: none,
-        n: 0,
-    }
-}
-
-// Row by row, and in the words of N, what either allows.
-fn union(a: Rows, b: Rows) -> Rows
-    ensures { λ r. ⌜ (r .x ≡ joined (a .x) (b .x)) × (r .y ≡ joined (a .y) (b .y)) × (r .n ≡ bitOr (a .n) (b .n)) ⌝ }
-{
-    let ax = a.x;
-    let bx = b.x;
-    let ay = a.y;
-    let by = b.y;
-    let x = rows::join(ax, bx);
-    let y = rows::join(ay, by);
-    Rows { x, y, n: a.n | b.n }
-}
+ghost use Rattle.inplace.specs.InTable.{Tidy};
+ghost use Rattle.inplace.specs.InPlace.{InPlace};
+ghost use Rattle.sub.specs.Substrings.{reachOf, Lesser, Added, Room, Entered, Started, Reaching, Over, Covered, Fixed, Written, Left, Wholes};
 
 // The least length of an X in which a part of m symbols starts after off symbols. Nothing else knows how far an empty part may go.
 fn reach(off: usize, m: usize) -> usize
@@ -59,73 +23,143 @@ fn reach(off: usize, m: usize) -> usize
     off + m
 }
 
-// What is used by the strings of X of at least end symbols that have, after off symbols, m that Y allows.
-fn wholes(x: [u64; 64], y: [u64; 64], off: usize, m: usize, end: usize) -> [u64; 64]
-    requires { ⌜ (off + m ≤ end) × (end < 64) ⌝ }
-    ensures { λ r. ⌜ Supports (Holds x y off m end) textBit 64 r ⌝ }
+// The lesser of two numbers.
+fn lesser(a: usize, b: usize) -> usize
+    ensures { λ r. ⌜ Lesser a b r ⌝ }
 {
-    let long = rows::window(x, (x[0] >> end) << end, 0, 63);
-    rows::trim(rows::overlay(long, y, off, m))
+    if a < b {
+        return a;
+    }
+    b
 }
 
-// What is used by the strings of Y that X allows after off symbols, and that end by its place top.
-fn parts(x: [u64; 64], y: [u64; 64], off: usize, top: usize) -> [u64; 64]
-    requires { ⌜ (off ≤ top) × (top < 64) ⌝ }
-    ensures { λ r. ⌜ Supports (Fitting x y off top) textBit 64 r ⌝ }
+// Adds these lengths to the row r, and to its places up to end what the places after a and after b allow together.
+fn add(t: &[u64], a: usize, b: usize, ls: u64, end: usize, r: &mut [u64; 64])
+    requires { ⌜ (length (now r) ≡ 64) × (end < 64) × (a + end < length (now t)) × (b + end < length (now t)) ⌝ }
+    ensures { λ u. ⌜ Added (now (t .entry)) a b ls end (now (r .entry)) (now (r .exit)) ⌝ }
 {
-    let shifted = rows::window(x, words::low_mask(top - off), off, 63 - off);
-    rows::trim(rows::meet(y, shifted))
-}
-
-// What the choices use whose part starts after off symbols, where N allows that start. A shorter part asks less of X, and a longer X leaves a part more
-// room: so Y's least length decides what stays of X, and X's greatest what stays of Y.
-fn part_at(x: [u64; 64], y: [u64; 64], n: u64, off: usize, least: usize, top: usize) -> Rows
-    requires { ⌜ (off < 63) × (least < 64) × (top < 64) × (bit n (suc off) ≡ true) ⌝ }
-    ensures { λ r. ⌜ (Longest x top → Lowest (word y 0) least → Supported (PartAt x y n off) (r .x) (r .y) (r .n)) ⌝ }
-{
-    let end = reach(off, least);
-    if top < end {
-        return nothing();
-    }
-    let a = wholes(x, y, off, least, end);
-    if a[0] == 0 {
-        return nothing();
-    }
-    let b = parts(x, y, off, top);
-    Rows {
-        x: a,
-        y: b,
-        n: words::singleton(off + 1),
+    r[0] = r[0] | ls;
+    let mut i: usize = 0;
+    while i < end {
+        r[i + 1] = r[i + 1] | (t[a + i + 1] & t[b + i + 1]);
+        i += 1;
     }
 }
 
-// The union over the starts 1 to 63.
-fn starts(x: [u64; 64], y: [u64; 64], n: u64, least: usize, top: usize) -> Rows
-    requires { ⌜ (least < 64) × (top < 64) ⌝ }
-    ensures { λ r. ⌜ (Longest x top → Lowest (word y 0) least → Supported (OfKinds (PartAt x y n) 63) (r .x) (r .y) (r .n)) ⌝ }
+// Adds to the row r the parts that start after off symbols; the word of that start, or of none where there is no such part.
+fn at_start(
+    t: &[u64],
+    x: usize,
+    y: usize,
+    off: usize,
+    least: usize,
+    most: usize,
+    longest: usize,
+    r: &mut [u64; 64],
+) -> u64
+    requires { ⌜ (length (now r) ≡ 64) × (off < 63) × Room (now t) x y least most longest ⌝ }
+    ensures { λ u. ⌜ Entered (row (now (t .entry)) x) (row (now (t .entry)) y) off least longest (now (r .entry)) (now (r .exit)) u ⌝ }
 {
-    let mut r = nothing();
-    let mut off: usize = 0;
-    while off < 63 {
-        if words::has(n, off + 1) {
-            let a = part_at(x, y, n, off, least, top);
-            r = union(a, r);
-        }
-        off += 1;
+    if longest < reach(off, least) {
+        return 0;
     }
-    r
+    let m = inplace::meets(t, 64 * x + off, 64 * y, lesser(most, longest - off));
+    if m < least {
+        return 0;
+    }
+    let ls = t[64 * y] & words::low_mask(m);
+    add(t, 64 * x + off, 64 * y, ls, words::highest(ls), r);
+    words::singleton(off + 1)
 }
 
-// One narrowing step. X is trimmed first, so that its greatest length is that of a string.
-pub fn narrow(x: [u64; 64], y: [u64; 64], n: u64) -> Rows
-    ensures { λ r. ⌜ r .x ++ (r .y ++ (r .n ∷ [])) ≡ narrowed (alone 2 1 []) (sub 0 1 0) (x ++ (y ++ (n ∷ []))) ⌝ }
+// The starts of n that are left, and in the row r, which is empty before, all parts that start there.
+fn starts(
+    t: &[u64],
+    x: usize,
+    y: usize,
+    n: u64,
+    least: usize,
+    most: usize,
+    longest: usize,
+    r: &mut [u64; 64],
+) -> u64
+    requires { ⌜ Room (now t) x y least most longest × (now r ≡ replicate 64 0) ⌝ }
+    ensures { λ u. ⌜ Started (row (now (t .entry)) x) (row (now (t .entry)) y) n least longest 0 u (now (r .exit)) ⌝ }
 {
-    let t = rows::trim(x);
-    if t[0] == 0 {
-        return nothing();
+    let mut rest = n >> 1;
+    let mut found: u64 = 0;
+    while rest != 0 {
+        let off = words::lowest(rest);
+        found = at_start(t, x, y, off, least, most, longest, r) | found;
+        rest -= words::singleton(off);
     }
-    if y[0] == 0 {
-        return nothing();
+    found
+}
+
+// What Y, whose row begins at b, allows at X's place after i by one of the starts n.
+fn over(t: &[u64], b: usize, n: u64, i: usize) -> u64
+    requires { ⌜ Reaching (length (now t)) b n i ⌝ }
+    ensures { λ r. ⌜ Over (now (t .entry)) b n i 0 r ⌝ }
+{
+    let mut rest = n >> 1;
+    let mut w: u64 = 0;
+    while rest != 0 {
+        let off = words::lowest(rest);
+        w = t[b + (i - off) + 1] | w;
+        rest -= words::singleton(off);
     }
-    starts(t, y, n, words::lowest(y[0]), words::highest(t[0]))
+    w
+}
+
+// Leaves X's places from `from` up to `to`, which lie in the part by every one of the starts n, what Y allows there by one of them; whether one differs.
+fn fix(t: &mut [u64], x: usize, y: usize, n: u64, from: usize, to: usize) -> bool
+    requires { ⌜ Covered (now t) x y n from to ⌝ }
+    ensures { λ r. ⌜ Written (Fixed (row (now (t .entry)) x) (row (now (t .entry)) y) n) (now (t .entry)) (64 * x) from to to (now (t .exit)) r ⌝ }
+{
+    let mut changed = false;
+    let mut i = from;
+    while i < to {
+        let w = t[64 * x + i + 1] & over(t, 64 * y, n, i);
+        changed = inplace::either(changed, inplace::put(t, 64 * x + i + 1, w));
+        i += 1;
+    }
+    changed
+}
+
+// Leaves X what the choices by the starts n use; whether it differs. A place that one of them leaves outside the part stays, and the first asks least of X.
+fn wholes(t: &mut [u64], x: usize, y: usize, n: u64, least: usize) -> bool
+    requires { ⌜ Left (now t) x y n least ⌝ }
+    ensures { λ r. ⌜ Wholes (now (t .entry)) x y n least (now (t .exit)) r ⌝ }
+{
+    let first = words::lowest(n) - 1;
+    let end = reach(first, least);
+    let ls = (t[64 * x] >> end) << end;
+    let p = fix(t, x, y, n, words::highest(n) - 1, first + least);
+    let q = inplace::shorten(t, x, ls);
+    inplace::either(p, q)
+}
+
+// One narrowing step in place; word i is N's.
+pub fn narrow(t: &mut [u64], x: usize, y: usize, i: usize) -> inplace::Change
+    requires { ⌜ (64 * x + 64 ≤ i) × (64 * y + 64 ≤ i) × (i < length (now t)) × (y ≢ x) × Tidy (row (now t) x) × Tidy (row (now t) y) ⌝ }
+    ensures { λ r. ⌜ InPlace [] (sub 0 1 0) (x ∷ y ∷ []) (i ∷ []) (now (t .entry)) (now (t .exit)) r ⌝ }
+{
+    let least = words::lowest(t[64 * y]);
+    let most = words::highest(t[64 * y]);
+    let longest = words::highest(t[64 * x]);
+    let old = t[i];
+    let mut r = [0u64; 64];
+    let n = starts(t, x, y, old, least, most, longest, &mut r);
+    if n == 0 {
+        return inplace::nothing();
+    }
+    let p = wholes(t, x, y, n, least);
+    let q = inplace::replace(t, y, &r, 0);
+    let z = inplace::put(t, i, n);
+    inplace::Change {
+        left: true,
+        x: p,
+        y: q,
+        z,
+    }
 }

@@ -1,5 +1,5 @@
 -- One turn of a run on a file: the constraint that is taken is the file's, and each of the three answers of its step carries the run on or ends it. Assumes nothing.
-use mathlib.Core.Path.{_≡_, sym, subst, _∙_}
+use mathlib.Core.Path.{_≡_, sym, subst}
 use mathlib.Core.Bool.{true, false}
 use mathlib.Core.List.{List}
 use Prim.Native.Nat.{ℕ, _-_, _^_, _≤_, _<_}
@@ -10,9 +10,7 @@ use Rattle.model.specs.Words.{bit}
 use Rattle.model.specs.Constraints.{Problem}
 use Rattle.model.specs.Layout.{Bytes}
 use Rattle.model.specs.Solutions.{WellFormed}
-use Rattle.laws.specs.Lent.{lendable}
 use Rattle.laws.proofs.WordLaws.{bit-le}
-use Rattle.laws.proofs.CallLaws.{lendable-length}
 use Rattle.layout.specs.declared.Parts.{Parts}
 use Rattle.format.specs.Accepting.{problemIn, Usable}
 use Rattle.format.proofs.ContentLaws.{usable-counts, usable-sound}
@@ -24,10 +22,6 @@ use Rattle.waiting.proofs.RunLaws.{Went, load, went-quiet, went-woken, 
 module _ (file : List ℕ) (p : Parts) (u : Usable file p) {U : List ℕ} {start : ℕ} {W : List ℕ} {w : ℕ} (g : Went (problemIn file p) U start W w) where
   abbrev P : Problem
   P = problemIn file p
-
-  -- the table keeps its length
-  pub went-length : lendable P U ≡ true → length W ≡ length U
-  went-length l = lendable-length P W (g .lent) ∙ sym (lendable-length P U l)
 
   most : length (P .constraints) ≤ 64
   most = omega (arith, u .fits .constraints-most, usable-counts file p u .constraints)
@@ -56,6 +50,3 @@ module _ (file : List ℕ) (p : Parts) (u : Usable file p) {U : List ℕ} {start
 
       pub taking-dead : r ≡ Dead → Ends P U start Z false
       taking-dead q = went-dead P U start (formed bytes) most g j here (subst (Turned P j W Z) q t)
-
-      pub taking-dead-length : lendable P U ≡ true → r ≡ Dead → length Z ≡ length U
-      taking-dead-length l q = lendable-length P Z (taking-dead q .lent) ∙ sym (lendable-length P U l)

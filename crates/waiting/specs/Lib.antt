@@ -1,2 +1,3 @@
 -- The definitions that the contracts of `waiting` cite.
 pub mod Turns
+pub mod Beginnings

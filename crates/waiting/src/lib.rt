@@ -1,21 +1,19 @@
 // Settling the table of a search's node: only constraints that may strike are taken, and a node with a variable that has no value is left at once.
 // What waits is a word, bit j for constraint j.
 //
-// Assumes nothing. `requires` asks what refusals 1 to 8 leave, the index of the file, and what the search knows of the table.
+// Assumes nothing. `requires` asks what refusals 1 to 8 leave, the index and the kinds of the file, and what the search knows of the table.
 ghost use mathlib.Core.Path.{_≡_};
 ghost use mathlib.Core.Bool.{true, false};
-ghost use mathlib.Core.List.{List};
 ghost use Prim.Native.Nat.{ℕ, _+_, _*_, _<_, _≤_};
 ghost use lib.ListN.{length};
-ghost use Rattle.model.specs.Words.{bit, Words};
-ghost use Rattle.model.specs.Constraints.{Problem, width};
-ghost use Rattle.model.specs.Solutions.{WellFormed};
+ghost use Rattle.model.specs.Words.{bit};
 ghost use Rattle.laws.specs.Lent.{lendable};
-ghost use Rattle.shortcuts.specs.Waiting.{Trimming, Begun, Early};
-ghost use Rattle.layout.specs.declared.Parts.{Parts};
+ghost use Rattle.shortcuts.specs.Waiting.{Begun, Early};
 ghost use Rattle.format.specs.Accepting.{problemIn, Usable};
+ghost use Rattle.steps.specs.Step.{KindsIn};
 ghost use Rattle.index.specs.Index.{Index};
-ghost use Rattle.waiting.specs.Turns.{Inside, Starts, Turned, Ends};
+ghost use Rattle.waiting.specs.Beginnings.{Trims, Readies, Wakes, Lengths};
+ghost use Rattle.waiting.specs.Turns.{Inside, TidyRows, Turned, Ends};
 
 // What a constraint's step leads to: it struck nothing; it struck, and these wait; or it left a variable without a value.
 enum Turn {
@@ -24,10 +22,18 @@ enum Turn {
     Dead,
 }
 
-// The step of constraint j.
-fn step(file: &[u8], p: layout::Parts, ix: &[u64], j: usize, table: &mut [u64]) -> Turn
+// The step of constraint j, in a table of tidy rows.
+fn step(
+    file: &[u8],
+    p: layout::Parts,
+    ix: &[u64],
+    kinds: &[u64],
+    j: usize,
+    table: &mut [u64],
+) -> Turn
     requires { ⌜ Usable (now file) p × (lendable (problemIn (now file) p) (now table) ≡ true) × (length (now ix) ≡ 32)
-        × Index (problemIn (now file) p) (now ix) × (j < p .c) ⌝ }
+        × Index (problemIn (now file) p) (now ix) × (j < p .c) × TidyRows (problemIn (now file) p) (now table)
+        × KindsIn (now file) p (now kinds) ⌝ }
     ensures { λ r. ⌜ Turned (problemIn (now (file .entry)) p) j (now (table .entry)) (now (table .exit)) r ⌝ }
 {
     let start = p.constraints_at;
@@ -35,15 +41,15 @@ fn step(file: &[u8], p: layout::Parts, ix: &[u64], j: usize, table: &mut [u64]) 
     let records::Decoded::Constraint(r) = records::at(&file[start..end], j, p.s, p.t, p.d) else {
         return Turn::Quiet;
     };
-    let n = steps::narrow(file, p, r, table);
-    if n.x + n.y + n.z == 0 {
-        return Turn::Quiet;
-    }
-    let x = index::first(r);
-    if table[64 * x] == 0 {
+    let n = steps::narrow(file, p, kinds, r, table);
+    if !n.left {
         return Turn::Dead;
     }
-    Turn::Woken(index::waking(ix, p.s, r, n) - words::singleton(j)) // its own step would strike nothing
+    let woken = index::waking(ix, p.s, r, n);
+    if woken == 0 {
+        return Turn::Quiet;
+    }
+    Turn::Woken(woken - words::singleton(j)) // its own step would strike nothing
 }
 
 // The constraint to take next: the lowest that waits from i on, or the lowest of all, so that they are taken in rounds.
@@ -59,9 +65,17 @@ fn next(pending: u64, i: usize) -> usize
 }
 
 // Takes constraints until none waits, or a variable has no value.
-fn run(file: &[u8], p: layout::Parts, ix: &[u64], start: u64, table: &mut [u64]) -> bool
+fn run(
+    file: &[u8],
+    p: layout::Parts,
+    ix: &[u64],
+    kinds: &[u64],
+    start: u64,
+    table: &mut [u64],
+) -> bool
     requires { ⌜ Usable (now file) p × (lendable (problemIn (now file) p) (now table) ≡ true) × (length (now ix) ≡ 32)
-        × Index (problemIn (now file) p) (now ix) × Inside (problemIn (now file) p) start ⌝ }
+        × Index (problemIn (now file) p) (now ix) × Inside (problemIn (now file) p) start × TidyRows (problemIn (now file) p) (now table)
+        × KindsIn (now file) p (now kinds) ⌝ }
     ensures { λ r. ⌜ Ends (problemIn (now (file .entry)) p) (now (table .entry)) start (now (table .exit)) r ⌝ }
 {
     let mut pending = start;
@@ -69,7 +83,7 @@ fn run(file: &[u8], p: layout::Parts, ix: &[u64], start: u64, table: &mut [u64])
     while pending != 0 {
         j = next(pending, j);
         pending = pending - words::singleton(j);
-        match step(file, p, ix, j, table) {
+        match step(file, p, ix, kinds, j, table) {
             Turn::Quiet => {}
             Turn::Woken(more) => pending = pending | more,
             Turn::Dead => return false,
@@ -89,42 +103,80 @@ fn all(c: usize) -> u64
     words::low_mask(c - 1)
 }
 
-// Trims every string.
-fn trim(table: &mut [u64], s: usize)
+// Makes every row tidy, as long as each has a value; whether all have.
+fn tidy_all(table: &mut [u64], s: usize) -> bool
     requires { ⌜ 64 * s ≤ length (now table) ⌝ }
-    ensures { λ r. ⌜ ((P : Problem) → s ≡ P .strings → length (now (table .entry)) ≡ width P → Words (now (table .entry))
-        → Trimming P (now (table .entry)) (now (table .exit)) s) ⌝ }
+    ensures { λ r. ⌜ Trims s (now (table .entry)) (now (table .exit)) r ⌝ }
 {
     for x in 0..s {
-        steps::trim(table, x);
+        if !inplace::tidy(table, x) {
+            return false;
+        }
     }
+    true
 }
 
-// Makes a table ready that is a child at word `from`, or, where there is no such word, any table: which constraints wait then.
-fn begin(p: layout::Parts, ix: &[u64], table: &mut [u64], from: usize) -> u64
-    requires { ⌜ (length (now ix) ≡ 32) × (p .s ≤ 16) × (p .t ≤ 16) × (p .c ≤ 64) × (length (now table) ≡ 64 * p .s + p .t) ⌝ }
-    ensures { λ w. ⌜ Starts p (now (ix .entry)) from (now (table .entry)) (now (table .exit)) w ⌝ }
+// Makes a table ready that is a child at word `from`, or, where there is no such word, any table: the rows that may hold bits which no string of theirs uses are made
+// tidy. False where one has no value.
+fn ready(table: &mut [u64], s: usize, from: usize) -> bool
+    requires { ⌜ 64 * s ≤ length (now table) ⌝ }
+    ensures { λ r. ⌜ Readies s from (now (table .entry)) (now (table .exit)) r ⌝ }
 {
     if from >= table.len() {
-        trim(table, p.s);
-        return all(p.c);
+        return tidy_all(table, s);
     }
-    if from < 64 * p.s {
-        steps::trim(table, from / 64);
-        return index::touching(ix, p.s, from);
+    if from < 64 * s {
+        return inplace::tidy(table, from / 64);
+    }
+    true
+}
+
+// Which constraints wait then, in a table of n words.
+fn first_waiting(p: layout::Parts, ix: &[u64], n: usize, from: usize) -> u64
+    requires { ⌜ (length (now ix) ≡ 32) × (p .s ≤ 16) × (p .t ≤ 16) × (p .c ≤ 64) × (n ≡ 64 * p .s + p .t) ⌝ }
+    ensures { λ w. ⌜ Wakes p (now (ix .entry)) n from w ⌝ }
+{
+    if from >= n {
+        return all(p.c);
     }
     index::touching(ix, p.s, from)
 }
 
+// Whether each of the s strings has a length.
+fn has_lengths(table: &[u64], s: usize) -> bool
+    requires { ⌜ 64 * s ≤ length (now table) ⌝ }
+    ensures { λ r. ⌜ Lengths s (now (table .entry)) r ⌝ }
+{
+    for x in 0..s {
+        if table[64 * x] == 0 {
+            return false;
+        }
+    }
+    true
+}
+
 // Settles a table that is a child at word `from`, or, where there is no such word, any table; whether every variable then has a value. Where one has none the
 // table is left as the last step made it: nobody looks at it again.
-pub fn settle(file: &[u8], p: layout::Parts, ix: &[u64], table: &mut [u64], from: usize) -> bool
+pub fn settle(
+    file: &[u8],
+    p: layout::Parts,
+    ix: &[u64],
+    kinds: &[u64],
+    table: &mut [u64],
+    from: usize,
+) -> bool
     requires { ⌜ Usable (now file) p × (lendable (problemIn (now file) p) (now table) ≡ true) × (length (now ix) ≡ 32)
-        × Index (problemIn (now file) p) (now ix) × Begun (problemIn (now file) p) (now table) from ⌝ }
+        × Index (problemIn (now file) p) (now ix) × Begun (problemIn (now file) p) (now table) from × KindsIn (now file) p (now kinds) ⌝ }
     ensures { λ r. ⌜ Early (problemIn (now (file .entry)) p) (now (table .entry)) (now (table .exit)) r ⌝ }
 {
-    let start = begin(p, ix, table, from);
-    if !run(file, p, ix, start, table) {
+    if !ready(table, p.s, from) {
+        return false;
+    }
+    let start = first_waiting(p, ix, table.len(), from);
+    if !has_lengths(table, p.s) {
+        return false;
+    }
+    if !run(file, p, ix, kinds, start, table) {
         return false;
     }
     rounds::every_value(table, p.s)

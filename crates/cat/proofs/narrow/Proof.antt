@@ -1,88 +1,59 @@
-use mathlib.Core.Path.{_≡_, refl, sym, _∙_}
-use mathlib.Core.Logic.{⊎-elim}
-use Prim.Native.Nat.{_-_, _≤_}
-use native.Mathlib.Omega.{arith}
-use native.Mathlib.Numerals.{add-one}
-use Rattle.model.specs.Words.{word}
-use Rattle.rows.proofs.Fill.{array-words}
-use Rattle.laws.specs.Supported.{OfKinds}
-use Rattle.cat.specs.Splits.{Split, Supported}
-use Rattle.cat.proofs.CatLaws.{splits-start, splits-next, splits-skip, cat-narrowed}
+use Rattle.inplace.proofs.Parts.{tidy-lengths}
 use borrow.Author.Needs.{needs}
 use Rattle.cat.proofs.narrow.Statement.{statement}
 use Rattle.cat.proofs.narrow.Tie as tie
 use Rattle.cat.proofs.narrow.Reads as reads
 use Rattle.cat.proofs.narrow.Lts as lts
-use Rattle.cat.proofs.nothing.Reads as nothing-reads
-use Rattle.cat.proofs.split.Reads as split-reads
-use Rattle.cat.proofs.union.Reads as union-reads
-use Rattle.words.proofs.has.Reads as has-reads
+use Rattle.cat.proofs.decided.Reads as decided-reads
+use Rattle.cat.proofs.undecided.Reads as undecided-reads
+use Rattle.words.proofs.highest.Reads as highest-reads
+use Rattle.words.proofs.singleton.Reads as singleton-reads
 
-abbrev Inv-loop : tie.InvT-loop
-Inv-loop y z x lengths r₀ p₀ r p = (p ≤ 64) × (lengths ≡ word x 0) × Supported (OfKinds (Split x y z) p) (r .x) (r .y) (r .z)
+mul-lengths : tie.Need-mul-lengths
+mul-lengths c = search needs
 
-abbrev μ-loop : tie.MeasureT-loop
-μ-loop y z x lengths r₀ p₀ r p = 64 - p
+mul-lengths-2 : tie.Need-mul-lengths-2
+mul-lengths-2 c = search needs
 
-array-read-lengths : tie.Need-array-read-lengths Inv-loop μ-loop
-array-read-lengths c = search needs
+slice-read-lengths : tie.Need-slice-read-lengths
+slice-read-lengths c = search needs
 
-nothing-requires : tie.Need-nothing-requires Inv-loop μ-loop
-nothing-requires c κs = search needs
+highest-requires : tie.Need-highest-requires
+highest-requires c κs = tidy-lengths _ _ (c .before .before .pre .tidy-x)
 
-loop-holds : tie.Need-loop-holds Inv-loop μ-loop
-loop-holds c = let n = c .nothing .ensures in (search needs, refl, splits-start _ _ _ _ _ _ (n .0) (n .1) (n .2))
+singleton-requires : tie.Need-singleton-requires
+singleton-requires c κs = search needs
 
-has-requires : tie.Need-has-requires Inv-loop μ-loop
-has-requires c κs = search needs
+decided-requires : tie.Need-decided-requires
+decided-requires c κs = search needs
 
-split-requires : tie.Need-split-requires Inv-loop μ-loop
-split-requires c κs = (search needs, rw (← c .before .before .before .loop .inv .1) (sym (c .before .has .ensures) ∙ c .if1 .taken))
+same-length : tie.Need-same-length
+same-length c = search needs
 
-union-requires : tie.Need-union-requires Inv-loop μ-loop
-union-requires c κs = search needs
+returns : tie.Need-returns
+returns c = search needs
 
-add-p : tie.Need-add-p Inv-loop μ-loop
-add-p c = search needs
+undecided-requires : tie.Need-undecided-requires
+undecided-requires c κs = search needs
 
-loop-less : tie.Need-loop-less Inv-loop μ-loop
-loop-less c = search needs
+same-length-2 : tie.Need-same-length-2
+same-length-2 c = search needs
 
-loop-again : tie.Need-loop-again Inv-loop μ-loop
-loop-again c =
-    let l = c .before .before .before .loop in
-    let h = c .before .has .ensures in (
-      search needs,
-      l .inv .1,
-      rw add-one (⊎-elim
-          (λ w. let u = w .2 .ensures in rw (w .3, u .0, u .1, u .2) (splits-next _ _ _ _ _ _ _ _ _ _ (w .1 .ensures) (l .inv .2)))
-          (λ w. rw (w .1) (splits-skip _ _ _ _ (rw (← l .inv .1) (sym h ∙ w .0 .left)) _ _ _ (l .inv .2)))
-          (c .if1 .came)),
-    )
-
-returns : tie.Need-returns Inv-loop μ-loop
-returns c =
-    let s = c .before .before .before in
-    let x = s .args .t1 in
-    let y = s .args .y in
-    let z = s .args .z in
-    let e : c .before .loop .p ≡ 64 = omega arith in
-    cat-narrowed x y z (search needs) (search needs) (search needs) (array-words x (λ i. search needs)) (array-words y (λ i. search needs)) (array-words z (λ i. search needs)) _ _ _
-    (rw e at (c .before .loop .inv .2))
+returns-2 : tie.Need-returns-2
+returns-2 c = search needs
 
 pub narrow-spec : {M : Type 1} → statement M
 narrow-spec =
     tie.close
     (tie.spec
-    Inv-loop
-    μ-loop
-    array-read-lengths
-    nothing-requires
-    loop-holds
-    has-requires
-    split-requires
-    union-requires
-    add-p
-    loop-less
-    loop-again
-    returns)
+    mul-lengths
+    mul-lengths-2
+    slice-read-lengths
+    highest-requires
+    singleton-requires
+    decided-requires
+    same-length
+    returns
+    undecided-requires
+    same-length-2
+    returns-2)

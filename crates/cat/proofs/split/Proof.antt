@@ -1,104 +1,170 @@
-use mathlib.Core.Path.{_≡_, sym, _∙_}
-use mathlib.Core.Bool.{true, false}
-use borrow.Author.Tests.{not-true, not-false}
-use Rattle.model.specs.Words.{bit, word}
-use Rattle.rows.specs.Rows.{trimmed}
-use Rattle.rows.proofs.Fill.{array-words}
-use Rattle.cat.proofs.CatLaws.{none-supported, split-empty, split-supported}
+use mathlib.Core.Path.{_∙_}
+use native.Mathlib.Omega.{arith}
+use Rattle.laws.proofs.TableLaws.{words-of}
+use Rattle.cat.proofs.GatherLaws.{split-room, split-within, split-empty, split-none, split-some}
 use borrow.Author.Needs.{needs}
 use Rattle.cat.proofs.split.Statement.{statement}
 use Rattle.cat.proofs.split.Tie as tie
 use Rattle.cat.proofs.split.Reads as reads
 use Rattle.cat.proofs.split.Lts as lts
-use Rattle.cat.proofs.nothing.Reads as nothing-reads
-use Rattle.cat.proofs.whole.Reads as whole-reads
-use Rattle.rows.proofs.trim.Reads as trim-reads
-use Rattle.rows.proofs.window.Reads as window-reads
+use Rattle.cat.proofs.add.Reads as add-reads
+use Rattle.cat.proofs.lengthen.Reads as lengthen-reads
+use Rattle.inplace.proofs.meets.Reads as meets-reads
+use Rattle.words.proofs.highest.Reads as highest-reads
+use Rattle.words.proofs.low_mask.Reads as low-mask-reads
 use Rattle.words.proofs.singleton.Reads as singleton-reads
 
-array-read-lengths : tie.Need-array-read-lengths
-array-read-lengths c = search needs
+mul-a : tie.Need-mul-a
+mul-a c = search needs
+
+add-a : tie.Need-add-a
+add-a c = search needs
+
+mul-b : tie.Need-mul-b
+mul-b c = search needs
+
+mul-lengths : tie.Need-mul-lengths
+mul-lengths c = search needs
+
+mul-lengths-2 : tie.Need-mul-lengths-2
+mul-lengths-2 c = search needs
+
+shared-slice-read-lengths : tie.Need-shared-slice-read-lengths
+shared-slice-read-lengths c = search needs
 
 shr-lengths : tie.Need-shr-lengths
 shr-lengths c = search needs
 
-array-read-lengths-2 : tie.Need-array-read-lengths-2
-array-read-lengths-2 c = search needs
+mul-lengths-3 : tie.Need-mul-lengths-3
+mul-lengths-3 c = search needs
 
-shl-lengths : tie.Need-shl-lengths
-shl-lengths c = search needs
-
-whole-requires : tie.Need-whole-requires
-whole-requires c κs = search needs
-
-trim-requires : tie.Need-trim-requires
-trim-requires c κs = search needs
-
-array-read-if1 : tie.Need-array-read-if1
-array-read-if1 c = search needs
-
-nothing-requires : tie.Need-nothing-requires
-nothing-requires c κs = search needs
+shared-slice-read-lengths-2 : tie.Need-shared-slice-read-lengths-2
+shared-slice-read-lengths-2 c = search needs
 
 returns : tie.Need-returns
 returns c =
-    let s = c .before .before .before .before in
-    let x = s .args .x in
-    let z = s .args .t3 in
-    let n = c .nothing .ensures in
-    let whole = c .before .before .before .whole in
-    let allowed = s .pre .1 in
-    let empty : word (trimmed (whole .result)) 0 ≡ 0 = rw (← c .before .before .trim .ensures) (c .before .if1 .taken) in
-    none-supported _ (split-empty x (s .args .t2) z (s .args .p) (search needs) (array-words z (λ i. search needs)) allowed (whole .result) (array-words (whole .result) (λ i. search needs)) (whole .ensures) empty)
-    _ _ _ (n .0) (n .1) (n .2)
+    let k = c .before .before in
+    let s = k .before .before .before in
+    split-empty _ _ _ _ _ _ (s .pre .0) (words-of (s .args .t .now) (λ i. k .shared-slice-known2 .given i .fits)) (s .pre .2) _ (c .if1 .taken)
+
+highest-requires : tie.Need-highest-requires
+highest-requires c κs = search needs
+
+meets-requires : tie.Need-meets-requires
+meets-requires c κs =
+    let s = c .before .before .before .before .before .before in
+    let o = split-room _ _ _ _ _ (s .pre .0) _ (c .highest .ensures) in
+    (o .0, o .1)
+
+low-mask-requires : tie.Need-low-mask-requires
+low-mask-requires c κs = search needs
+
+returns-2 : tie.Need-returns-2
+returns-2 c =
+    let m = c .before .before in
+    let h = m .before in
+    let k = h .before .before .before in
+    let s = k .before .before .before in
+    split-none _ _ _ _ _ _ (s .pre .0) (words-of (s .args .t .now) (λ i. k .shared-slice-known2 .given i .fits)) (s .pre .2) _ _ (h .highest .ensures) _
+    (m .meets .ensures)
+    _ (c .before .low-mask .ensures) (c .if2 .taken)
+
+highest-requires-2 : tie.Need-highest-requires-2
+highest-requires-2 c κs = search needs
+
+mul-from-z : tie.Need-mul-from-z
+mul-from-z c = search needs
+
+add-from-z : tie.Need-add-from-z
+add-from-z c = search needs
+
+mul-from-x : tie.Need-mul-from-x
+mul-from-x c = search needs
+
+add-from-x : tie.Need-add-from-x
+add-from-x c = search needs
 
 singleton-requires : tie.Need-singleton-requires
 singleton-requires c κs = search needs
 
-window-requires : tie.Need-window-requires
-window-requires c κs = search needs
+shl-lengthen : tie.Need-shl-lengthen
+shl-lengthen c = search needs
 
-array-read-window : tie.Need-array-read-window
-array-read-window c = search needs
+lengthen-requires : tie.Need-lengthen-requires
+lengthen-requires c κs = search needs
 
-shr-window : tie.Need-shr-window
-shr-window c = search needs
+add-add : tie.Need-add-add
+add-add c = search needs
 
-sub-window : tie.Need-sub-window
-sub-window c = search needs
+sub-add : tie.Need-sub-add
+sub-add c = search needs
 
-window-requires-2 : tie.Need-window-requires-2
-window-requires-2 c κs = search needs
+add-requires : tie.Need-add-requires
+add-requires c κs = search needs
 
-returns-2 : tie.Need-returns-2
-returns-2 c =
-    let s = c .before .before .before .before .before .before in
-    let x = s .args .x in
-    let z = s .args .t3 in
-    let whole = c .before .before .before .before .before .whole in
-    let trim = c .before .before .before .before .trim in
-    let allowed = s .pre .1 in
-    split-supported x (s .args .t2) z (s .args .p) (search needs) (array-words z (λ i. search needs)) allowed (whole .result) (array-words (whole .result) (λ i. search needs)) (whole .ensures)
-    (trim .result) (c .before .window .result) (c .window2 .result) (trim .ensures) (array-words (trim .result) (λ i. search needs)) (search needs)
-    (rw (c .before .before .singleton .ensures) at (c .before .window .ensures)) (c .window2 .ensures)
+add-add-2 : tie.Need-add-add-2
+add-add-2 c = search needs
+
+add-requires-2 : tie.Need-add-requires-2
+add-requires-2 c κs =
+    let u = c .before .before .before in
+    let n = u .before .before .before .before in
+    let w = n .before .before .before in
+    let h = w .before .before .before .before in
+    let s = h .before .before .before .before .before .before in
+    let o = split-room _ _ _ _ _ (s .pre .0) _ (h .highest .ensures) in
+    let l = split-within _ _ _ _ (h .highest .ensures) (w .highest2 .ensures) in
+    let e = u .add .ensures .size ∙ n .lengthen .ensures .size ∙ s .pre .3 in
+    (omega arith, omega arith, omega arith, omega arith)
+
+same-length : tie.Need-same-length
+same-length c = search needs
+
+returns-3 : tie.Need-returns-3
+returns-3 c =
+    let v = c .before .before in
+    let u = v .before .before .before .before in
+    let n = u .before .before .before .before in
+    let w = n .before .before .before in
+    let m = w .before .before .before in
+    let h = m .before in
+    let k = h .before .before .before in
+    let s = k .before .before .before in
+    split-some _ _ _ _ _ _ (s .pre .0) (words-of (s .args .t .now) (λ i. k .shared-slice-known2 .given i .fits)) (s .pre .2) _ _ (h .highest .ensures) _
+    (m .meets .ensures)
+    _ (w .before .before .low-mask .ensures) _ (w .highest2 .ensures) _ (n .before .singleton .ensures)
+    _ _ _ (n .lengthen .ensures) (u .add .ensures) (v .add2 .ensures)
 
 pub split-spec : {M : Type 1} → statement M
 split-spec =
     tie.close
     (tie.spec
-    array-read-lengths
+    mul-a
+    add-a
+    mul-b
+    mul-lengths
+    mul-lengths-2
+    shared-slice-read-lengths
     shr-lengths
-    array-read-lengths-2
-    shl-lengths
-    whole-requires
-    trim-requires
-    array-read-if1
-    nothing-requires
+    mul-lengths-3
+    shared-slice-read-lengths-2
     returns
+    highest-requires
+    meets-requires
+    low-mask-requires
+    returns-2
+    highest-requires-2
+    mul-from-z
+    add-from-z
+    mul-from-x
+    add-from-x
     singleton-requires
-    window-requires
-    array-read-window
-    shr-window
-    sub-window
-    window-requires-2
-    returns-2)
+    shl-lengthen
+    lengthen-requires
+    add-add
+    sub-add
+    add-requires
+    add-add-2
+    add-requires-2
+    same-length
+    returns-3)

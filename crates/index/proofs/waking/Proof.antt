@@ -6,7 +6,7 @@ use Rattle.index.proofs.waking.Statement.{statement}
 use Rattle.index.proofs.waking.Tie as tie
 use Rattle.index.proofs.waking.Reads as reads
 use Rattle.index.proofs.waking.Lts as lts
-use Rattle.index.proofs.if_struck.Reads as if-struck-reads
+use Rattle.index.proofs.if_changed.Reads as if-changed-reads
 use Rattle.index.proofs.three.Reads as three-reads
 use Rattle.index.proofs.two.Reads as two-reads
 
@@ -121,12 +121,12 @@ two-requires-4 c κs =
 enum-known-r-7 : tie.Need-enum-known-r-7
 enum-known-r-7 c = search needs
 
-cast-if-struck : tie.Need-cast-if-struck
-cast-if-struck c = search needs
+cast-if-changed : tie.Need-cast-if-changed
+cast-if-changed c = search needs
 
-if-struck-requires : tie.Need-if-struck-requires
+if-changed-requires : tie.Need-if-changed-requires
 unfolding position
-if-struck-requires c κs =
+if-changed-requires c κs =
     let pre = c .before .before .before .before .pre in
     let i = one-inside (pre .2) (names-regular (c .before .r7 .given .1)) in
     (pre .0, i)
@@ -171,7 +171,7 @@ returns-7 : tie.Need-returns-7
 unfolding position
 returns-7 c =
     let a = c .before .before .before .before .before .args in
-    union-one (a .s) (a .ix .now) (a .n) (names-regular (c .before .before .r7 .given .1)) (c .if-struck .ensures)
+    union-one (a .s) (a .ix .now) (a .n) (names-regular (c .before .before .r7 .given .1)) (c .if-changed .ensures)
 
 pub waking-spec : {M : Type 1} → statement M
 waking-spec =
@@ -206,8 +206,8 @@ waking-spec =
     add-two
     two-requires-4
     enum-known-r-7
-    cast-if-struck
-    if-struck-requires
+    cast-if-changed
+    if-changed-requires
     returns
     returns-2
     returns-3

@@ -1,33 +1,75 @@
-use mir.Val.{Fits}
-use mir.Syntax.{w64}
+use Rattle.laws.proofs.TableLaws.{words-of}
+use Rattle.len.proofs.LenSteps.{len-none, len-ready, len-some}
 use borrow.Author.Needs.{needs}
-use Rattle.rows.proofs.Fill.{array-words}
-use Rattle.len.proofs.LenLaws.{len-narrowed}
 use Rattle.len.proofs.narrow.Statement.{statement}
 use Rattle.len.proofs.narrow.Tie as tie
 use Rattle.len.proofs.narrow.Reads as reads
 use Rattle.len.proofs.narrow.Lts as lts
-use Rattle.rows.proofs.trim.Reads as trim-reads
+use Rattle.inplace.proofs.nothing.Reads as nothing-reads
+use Rattle.inplace.proofs.put.Reads as put-reads
+use Rattle.inplace.proofs.shorten.Reads as shorten-reads
 
-array-read-both : tie.Need-array-read-both
-array-read-both c = search needs
+mul-lengths : tie.Need-mul-lengths
+mul-lengths c = search needs
 
-array-write-both : tie.Need-array-write-both
-array-write-both c = search needs
+mul-lengths-2 : tie.Need-mul-lengths-2
+mul-lengths-2 c = search needs
 
-trim-requires : tie.Need-trim-requires
-trim-requires c κs = search needs
+slice-read-lengths : tie.Need-slice-read-lengths
+slice-read-lengths c = search needs
 
-array-read-t10 : tie.Need-array-read-t10
-array-read-t10 c = search needs
+mul-lengths-3 : tie.Need-mul-lengths-3
+mul-lengths-3 c = search needs
+
+slice-read-lengths-2 : tie.Need-slice-read-lengths-2
+slice-read-lengths-2 c = search needs
+
+nothing-requires : tie.Need-nothing-requires
+nothing-requires c κs = search needs
 
 returns : tie.Need-returns
 returns c =
-    let x = c .before .args .t1 in
-    let n = c .before .args .n in
-    let small : Fits w64 n = search needs in
-    rw (c .trim .ensures) (len-narrowed x n (search needs) (array-words x (λ i. search needs)) (small .fits))
+    let k = c .before .before .before in
+    let a = k .before .before in
+    len-none _ _ _ (a .pre .0) (a .pre .1) (words-of (a .args .t .now) (λ i. k .slice-known2 .given i .fits)) (k .slice-known2 .given (a .args .i) .fits)
+    (a .pre .2) (c .before .if1 .taken) _ (c .nothing .ensures)
+
+put-requires : tie.Need-put-requires
+put-requires c κs = search needs
+
+shorten-requires : tie.Need-shorten-requires
+shorten-requires c κs =
+    let u = c .before .before .before in
+    let e = u .before .before in
+    let k = e .before .before in
+    let a = k .before .before in
+    len-ready _ _ _ (a .pre .0) (a .pre .1) (words-of (a .args .t .now) (λ i. k .slice-known2 .given i .fits)) (k .slice-known2 .given (a .args .i) .fits)
+    (a .pre .2) _ _ (u .put .ensures) (e .if1 .left)
+
+same-length : tie.Need-same-length
+same-length c = search needs
+
+returns-2 : tie.Need-returns-2
+returns-2 c =
+    let u = c .before .before .before .before .before .before in
+    let e = u .before .before in
+    let k = e .before .before in
+    let a = k .before .before in
+    len-some _ _ _ (a .pre .0) (a .pre .1) (words-of (a .args .t .now) (λ i. k .slice-known2 .given i .fits)) (k .slice-known2 .given (a .args .i) .fits)
+    (a .pre .2) _ _ (u .put .ensures) _ _ (c .before .before .shorten .ensures)
 
 pub narrow-spec : {M : Type 1} → statement M
 narrow-spec =
-    tie.close (tie.spec array-read-both array-write-both trim-requires array-read-t10 returns)
+    tie.close
+    (tie.spec
+    mul-lengths
+    mul-lengths-2
+    slice-read-lengths
+    mul-lengths-3
+    slice-read-lengths-2
+    nothing-requires
+    returns
+    put-requires
+    shorten-requires
+    same-length
+    returns-2)

@@ -178,7 +178,7 @@ module _ {M : Type 1} (𝓤 : URA M) (H : Heap 𝓤) (A : Atoms 𝓤) (W : Given
         → ent 𝓤 (onEntry 𝓤 H A fn.signature (κ, (κf, (κt, tt))) (q, (qf, (qt, tt))) x at)
         (WpFn 𝓤 H C Λ code.function (sliceVal (b, o) (length ys) ∷ vint w64 i ∷ m ∷ pm ∷ s ∷ []) Post)
     walk gn gf gp gt h =
-        let l : i < length ys = inside bytes p ts ys i h in
+        let l : i < length ys = inside bytes p ts ys i (h .2) (h .3) in
         qed W ((‵ (flft κ q) ⊛ ‵ (flft κf qf) ⊛ ‵ (flft κt qt) ⊛ ‵ ftrue) ∷ ‵ (owns (ShrSlice (named 0) κ T.the-row ∷ usize ∷ ShrSlice (named 1) κf u8
         ∷ P.the-row ∷ MutSlice (named 2) κt u64 ∷ []) x at) ∷ []) ∵
         enter ! C Λ code.function (sliceVal (b, o) (length ys) ∷ vint w64 i ∷ m ∷ pm ∷ s ∷ []) _ $

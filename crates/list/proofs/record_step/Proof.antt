@@ -1,13 +1,11 @@
-use Prim.Native.Nat.{_+_, _<_}
-use native.Mathlib.Omega.{arith}
-use Rattle.list.proofs.ListedLaws.{never-none, constraint-there, few-lost, meant-step}
+use Rattle.list.proofs.ListedLaws.{never-none, constraint-there, meant-step}
 use borrow.Author.Needs.{needs}
 use Rattle.list.proofs.record_step.Statement.{statement}
 use Rattle.list.proofs.record_step.Tie as tie
 use Rattle.list.proofs.record_step.Reads as reads
 use Rattle.list.proofs.record_step.Lts as lts
 use Rattle.records.proofs.decode.Reads as decode-reads
-use Rattle.steps.proofs.narrow.Reads as narrow-reads
+use Rattle.steps.proofs.step.Reads as step-reads
 
 decode-requires : tie.Need-decode-requires
 decode-requires c κs = search needs
@@ -21,34 +19,22 @@ enum-told c = search needs
 returns : tie.Need-returns
 returns c = never-none _ _ _ _ (c .before .before .before .before .before .pre) _ (c .before .before .decode .ensures) (c .enum-told .given .1)
 
-narrow-requires : tie.Need-narrow-requires
-narrow-requires c κs =
+step-requires : tie.Need-step-requires
+step-requires c κs =
     let known = c .before .before in
     constraint-there _ _ _ _ (known .before .before .before .before .before .pre) _ (known .before .before .decode .ensures) _ (known .r .given .1)
-
--- what the step lost in all: both sums are below it
-few : (c : tie.After-narrow) → c .narrow .result .x + c .narrow .result .y + c .narrow .result .z < 4294967296
-few c =
-    let known = c .before .before .before in
-    few-lost _ _ _ _ (known .before .before .before .before .before .pre) _ (known .before .before .decode .ensures) _ (known .r .given .1) (c .narrow .ensures)
-
-add-result : tie.Need-add-result
-add-result c = omega (arith, few (c .before .before .before))
-
-add-result-2 : tie.Need-add-result-2
-add-result-2 c = omega (arith, few (c .before .before .before .before))
 
 same-length : tie.Need-same-length
 same-length c = search needs
 
 returns-2 : tie.Need-returns-2
 returns-2 c =
-    let stepped = c .before .before .before .before in
+    let stepped = c .before .before in
     let known = stepped .before .before .before in
     meant-step _ _ _ _ (known .before .before .before .before .before .pre) _ (known .before .before .decode .ensures) _ (known .r .given .1)
-    (stepped .narrow .ensures)
+    (stepped .step .ensures)
 
 pub record-step-spec : {M : Type 1} → statement M
 record-step-spec =
     tie.close
-    (tie.spec decode-requires enum-known-r enum-told returns narrow-requires add-result add-result-2 same-length returns-2)
+    (tie.spec decode-requires enum-known-r enum-told returns step-requires same-length returns-2)

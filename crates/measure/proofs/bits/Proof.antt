@@ -8,10 +8,10 @@ use Rattle.std.proofs.num.wrapping_add_u64.Reads as wrapping-add-u64-reads
 use Rattle.words.proofs.count.Reads as count-reads
 
 abbrev Inv-loop : tie.InvT-loop
-Inv-loop r n₀ i₀ n i = i ≤ 64
+Inv-loop t n₀ i₀ n i = i ≤ 193
 
 abbrev μ-loop : tie.MeasureT-loop
-μ-loop r n₀ i₀ n i = 64 - i
+μ-loop t n₀ i₀ n i = 193 - i
 
 loop-holds : tie.Need-loop-holds Inv-loop μ-loop
 loop-holds c = search needs

@@ -1,4 +1,6 @@
+use mathlib.Core.Path.{_≡_}
 use Prim.Native.Nat.{_≤_, _-_}
+use lib.ListN.{length}
 use borrow.Author.Needs.{needs}
 use Rattle.measure.proofs.typical_row.Statement.{statement}
 use Rattle.measure.proofs.typical_row.Tie as tie
@@ -6,25 +8,28 @@ use Rattle.measure.proofs.typical_row.Reads as reads
 use Rattle.measure.proofs.typical_row.Lts as lts
 
 abbrev Inv-loop : tie.InvT-loop
-Inv-loop lengths r₀ i₀ r i = i ≤ 8
+Inv-loop t₀ x lengths i₀ t i = (i ≤ 8) × (length t ≡ length t₀)
 
 abbrev μ-loop : tie.MeasureT-loop
-μ-loop lengths r₀ i₀ r i = 8 - i
-
-array-write-r : tie.Need-array-write-r Inv-loop μ-loop
-array-write-r c = search needs
+μ-loop t₀ x lengths i₀ t i = 8 - i
 
 loop-holds : tie.Need-loop-holds Inv-loop μ-loop
 loop-holds c = search needs
 
-add-r : tie.Need-add-r Inv-loop μ-loop
-add-r c = search needs
+mul-t : tie.Need-mul-t Inv-loop μ-loop
+mul-t c = search needs
 
-mul-r : tie.Need-mul-r Inv-loop μ-loop
-mul-r c = search needs
+add-t : tie.Need-add-t Inv-loop μ-loop
+add-t c = search needs
 
-array-write-r-2 : tie.Need-array-write-r-2 Inv-loop μ-loop
-array-write-r-2 c = search needs
+add-t-2 : tie.Need-add-t-2 Inv-loop μ-loop
+add-t-2 c = search needs
+
+mul-t-2 : tie.Need-mul-t-2 Inv-loop μ-loop
+mul-t-2 c = search needs
+
+slice-write-t : tie.Need-slice-write-t Inv-loop μ-loop
+slice-write-t c = search needs
 
 add-i : tie.Need-add-i Inv-loop μ-loop
 add-i c = search needs
@@ -35,6 +40,18 @@ loop-less c = search needs
 loop-again : tie.Need-loop-again Inv-loop μ-loop
 loop-again c = search needs
 
+mul-t-3 : tie.Need-mul-t-3 Inv-loop μ-loop
+mul-t-3 c = search needs
+
+mul-t-4 : tie.Need-mul-t-4 Inv-loop μ-loop
+mul-t-4 c = search needs
+
+slice-write-t-2 : tie.Need-slice-write-t-2 Inv-loop μ-loop
+slice-write-t-2 c = search needs
+
+same-length : tie.Need-same-length Inv-loop μ-loop
+same-length c = search needs
+
 returns : tie.Need-returns Inv-loop μ-loop
 returns c = search needs
 
@@ -44,12 +61,17 @@ typical-row-spec =
     (tie.spec
     Inv-loop
     μ-loop
-    array-write-r
     loop-holds
-    add-r
-    mul-r
-    array-write-r-2
+    mul-t
+    add-t
+    add-t-2
+    mul-t-2
+    slice-write-t
     add-i
     loop-less
     loop-again
+    mul-t-3
+    mul-t-4
+    slice-write-t-2
+    same-length
     returns)

@@ -1,36 +1,98 @@
-use Rattle.rows.proofs.Fill.{array-words}
-use Rattle.neq.proofs.StepLaws.{neq-narrowed}
+use mathlib.Core.Path.{sym, _∙_}
+use Rattle.laws.proofs.TableLaws.{words-of}
+use Rattle.inplace.proofs.Loops.{not-false, not-true}
+use Rattle.neq.proofs.WithoutLaws.{neq-several, neq-first, neq-second}
 use borrow.Author.Needs.{needs}
 use Rattle.neq.proofs.narrow.Statement.{statement}
 use Rattle.neq.proofs.narrow.Tie as tie
 use Rattle.neq.proofs.narrow.Reads as reads
 use Rattle.neq.proofs.narrow.Lts as lts
-use Rattle.neq.proofs.side.Reads as side-reads
-use Rattle.rows.proofs.trim.Reads as trim-reads
+use Rattle.neq.proofs.one_string.Reads as one-string-reads
+use Rattle.neq.proofs.without.Reads as without-reads
 
-trim-requires : tie.Need-trim-requires
-trim-requires c κs = search needs
+one-string-requires : tie.Need-one-string-requires
+one-string-requires c κs = search needs
 
-trim-requires-2 : tie.Need-trim-requires-2
-trim-requires-2 c κs = search needs
+without-requires : tie.Need-without-requires
+without-requires c κs =
+    let d = c .before in
+    let o = d .before in
+    let a = o .before .before .before in
+    record {
+      fits-x = a .pre .0;
+      fits-y = a .pre .1;
+      tidy-x = a .pre .3;
+      tidy-y = a .pre .4;
+      one = not-true _ (sym (o .one-string .ensures) ∙ d .if1 .taken);
+    }
 
-side-requires : tie.Need-side-requires
-side-requires c κs = search needs
-
-side-requires-2 : tie.Need-side-requires-2
-side-requires-2 c κs = search needs
+same-length : tie.Need-same-length
+same-length c = search needs
 
 returns : tie.Need-returns
 returns c =
-    let t = c .before .before in
-    let s = t .before .before in
-    let x = s .args .x in
-    let y = s .args .y in
-    let wx = array-words x (λ i. search needs) in
-    let wy = array-words y (λ i. search needs) in
-    let u = t .before .trim .ensures in
-    let v = t .trim2 .ensures in
-    neq-narrowed x y (search needs) (search needs) wx wy _ _ (c .before .side .ensures y (search needs) wy u v) (c .side2 .ensures x (search needs) wx v u)
+    let w = c .before .before in
+    let d = w .before .before in
+    let o = d .before in
+    let k = o .before .before in
+    let a = k .before in
+    neq-first _ _ _ (a .pre .0) (a .pre .1) (a .pre .2) (a .pre .3) (a .pre .4) (words-of (a .args .t .now) (λ i. k .slice-known .given i .fits))
+    (not-true _ (sym (o .one-string .ensures) ∙ d .if1 .taken)) _ _ _ (w .without .ensures)
+
+one-string-requires-2 : tie.Need-one-string-requires-2
+one-string-requires-2 c κs = search needs
+
+without-requires-2 : tie.Need-without-requires-2
+without-requires-2 c κs =
+    let d = c .before in
+    let o = d .before in
+    let a = o .before .before .before .before .before .before in
+    record {
+      fits-x = a .pre .1;
+      fits-y = a .pre .0;
+      tidy-x = a .pre .4;
+      tidy-y = a .pre .3;
+      one = not-true _ (sym (o .one-string2 .ensures) ∙ d .if2 .taken);
+    }
+
+same-length-2 : tie.Need-same-length-2
+same-length-2 c = search needs
+
+returns-2 : tie.Need-returns-2
+returns-2 c =
+    let w = c .before .before in
+    let d = w .before .before in
+    let s = d .before in
+    let o = s .before .before .before in
+    let k = o .before .before in
+    let a = k .before in
+    neq-second _ _ _ (a .pre .0) (a .pre .1) (a .pre .2) (a .pre .3) (a .pre .4) (words-of (a .args .t .now) (λ i. k .slice-known .given i .fits))
+    (not-true _ (sym (s .one-string2 .ensures) ∙ d .if2 .taken)) _ _ _ (w .without2 .ensures)
+
+same-length-3 : tie.Need-same-length-3
+same-length-3 c = search needs
+
+returns-3 : tie.Need-returns-3
+returns-3 c =
+    let s = c .before in
+    let e = s .before .before in
+    let o = e .before in
+    let k = o .before .before in
+    let a = k .before in
+    neq-several _ _ _ (a .pre .0) (a .pre .1) (a .pre .2) (a .pre .3) (a .pre .4) (words-of (a .args .t .now) (λ i. k .slice-known .given i .fits))
+    (not-false _ (sym (s .one-string2 .ensures) ∙ c .if2 .left)) (not-false _ (sym (o .one-string .ensures) ∙ e .if1 .left))
 
 pub narrow-spec : {M : Type 1} → statement M
-narrow-spec = tie.close (tie.spec trim-requires trim-requires-2 side-requires side-requires-2 returns)
+narrow-spec =
+    tie.close
+    (tie.spec
+    one-string-requires
+    without-requires
+    same-length
+    returns
+    one-string-requires-2
+    without-requires-2
+    same-length-2
+    returns-2
+    same-length-3
+    returns-3)

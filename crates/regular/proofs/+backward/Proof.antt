@@ -1,162 +1,197 @@
 use native.Mathlib.Omega.{arith}
 use borrow.Author.Needs.{needs}
-use mathlib.Core.Path.{refl, sym, _∙_}
-use lib.ListN.{replicate, length-replicate, getD-replicate}
-use Rattle.rows.proofs.Fill.{array-words}
-use Rattle.automata.specs.Machine.{stateCount, machine}
-use Rattle.automata.proofs.MachineLaws.{machine-accepting}
-use Rattle.automata.proofs.SetLaws.{gathered-empty, no-bit}
-use Rattle.regular.proofs.StateLaws.{machine-suited, some-left, backward-last, backward-next}
+use Rattle.laws.proofs.TableLaws.{words-of}
+use Rattle.regular.proofs.StepLaws.{level-first, level-going, level-inside, level-low, level-all, level-next}
 use Prim.Native.Nat.{ℕ, _<_}
 use borrow.Fn.Kinds.{In}
 use borrow.Fn.PlainCycle.{Measures, is, falls, and}
 use Rattle.regular.proofs.backward.Reads as backward
 use Rattle.regular.proofs.backward.Kinds as backward-kinds
 use Rattle.regular.proofs.+backward.Lts-backward as backward-lts
-use Rattle.automata.proofs.accepting.Reads as accepting-reads
+use Rattle.inplace.proofs.either.Reads as either-reads
+use Rattle.inplace.proofs.put.Reads as put-reads
 use Rattle.regular.proofs.ending.Reads as ending-reads
-use Rattle.regular.proofs.predecessors.Reads as predecessors-reads
-use Rattle.words.proofs.none_from.Reads as none-from-reads
+use Rattle.regular.proofs.kept.Reads as kept-reads
 use Rattle.regular.proofs.+backward.{statement}
 use Rattle.regular.proofs.+backward.Tie.{close}
 
-abbrev μ-backward : Measures 1 backward-kinds.ps ℕ
-μ-backward κs a = a .1 .1 .1 .0
+abbrev μ-backward : Measures 7 backward-kinds.ps ℕ
+μ-backward κs a = a .1 .1 .1 .1 .1 .1 .1 .0
 
-abbrev backward-at : ℕ → In 1 backward-kinds.ps
-backward-at t = and 1 backward-kinds.ps (is 1 backward-kinds.ps μ-backward t) backward.Pre
+abbrev backward-at : ℕ → In 7 backward-kinds.ps
+backward-at t = and 7 backward-kinds.ps (is 7 backward-kinds.ps μ-backward t) backward.Pre
 
-abbrev backward-below : ℕ → In 1 backward-kinds.ps
+abbrev backward-below : ℕ → In 7 backward-kinds.ps
 backward-below t =
-    and 1 backward-kinds.ps (falls 1 backward-kinds.ps _<_ μ-backward t) backward.Pre
+    and 7 backward-kinds.ps (falls 7 backward-kinds.ps _<_ μ-backward t) backward.Pre
 
 -- what each call asks and tells, in the order of the calls' names; of `backward` itself only where the measure has fallen
 abbrev claims : ℕ → backward-lts.Claims
 claims t = (
-  accepting-reads.Asked,
-  accepting-reads.Learnt,
   ending-reads.Asked,
   ending-reads.Learnt,
-  none-from-reads.Asked,
-  none-from-reads.Learnt,
   backward-below t,
   backward.Post,
-  predecessors-reads.Asked,
-  predecessors-reads.Learnt,
+  kept-reads.Asked,
+  kept-reads.Learnt,
+  put-reads.Asked,
+  put-reads.Learnt,
+  either-reads.Asked,
+  either-reads.Learnt,
 )
 
-backward-sub-i : (t : ℕ) → backward-lts.Need-sub-i (claims t) (backward-at t) backward.Post
-backward-sub-i t c = search needs
+backward-mul-ending : (t : ℕ) → backward-lts.Need-mul-ending (claims t) (backward-at t) backward.Post
+backward-mul-ending t c = search needs
 
-backward-array-read-ending : (t : ℕ) → backward-lts.Need-array-read-ending (claims t) (backward-at t) backward.Post
-backward-array-read-ending t c = search needs
-
-backward-accepting-requires : (t : ℕ) → backward-lts.Need-accepting-requires (claims t) (backward-at t) backward.Post
-backward-accepting-requires t c κs = search needs
+backward-element-copy-out-ending : (t : ℕ) → backward-lts.Need-element-copy-out-ending (claims t) (backward-at t) backward.Post
+backward-element-copy-out-ending t c = search needs
 
 backward-ending-requires : (t : ℕ) → backward-lts.Need-ending-requires (claims t) (backward-at t) backward.Post
-backward-ending-requires t c κs = search needs
-
-backward-array-read-none-from : (t : ℕ) → backward-lts.Need-array-read-none-from (claims t) (backward-at t) backward.Post
-backward-array-read-none-from t c = search needs
-
-backward-add-none-from : (t : ℕ) → backward-lts.Need-add-none-from (claims t) (backward-at t) backward.Post
-backward-add-none-from t c = search needs
-
-backward-none-from-requires : (t : ℕ) → backward-lts.Need-none-from-requires (claims t) (backward-at t) backward.Post
-backward-none-from-requires t c κs = search needs
-
-backward-mul-sets : (t : ℕ) → backward-lts.Need-mul-sets (claims t) (backward-at t) backward.Post
-backward-mul-sets t c = search needs
-
-backward-array-write-sets : (t : ℕ) → backward-lts.Need-array-write-sets (claims t) (backward-at t) backward.Post
-backward-array-write-sets t c = search needs
+backward-ending-requires t c κs = (search needs, search needs)
 
 backward-returns : (t : ℕ) → backward-lts.Need-returns (claims t) (backward-at t) backward.Post
 backward-returns t c =
-    let s = c .before .before .before .before .before in
-    let x = s .args .t3 in
-    let d = s .args .d .now in
-    let k = s .args .k in
-    let fit = machine-suited k d x (s .pre .1 .1) (s .pre .1 .2) (search needs) (array-words x (λ i. search needs)) in (
-      backward-last (machine k d) (stateCount d) k x fit (s .args .r) (c .before .before .before .accepting .result) _ (replicate 64 0) (length-replicate {A = ℕ} 64 0)
-          (λ j l. getD-replicate 64 j 0 0 l) (s .pre .1 .3) (sym (c .before .none-from .ensures) ∙ c .if1 .taken)
-          (c .before .before .before .accepting .ensures ∙ sym (machine-accepting k d)) (c .before .before .ending .ensures),
-      gathered-empty _ _ (λ i t x. no-bit _ i refl (x .0)),
-    )
+    let k = c .before .before .before in
+    let s = k .before .before .before in
+    let words = words-of (s .args .t .now) (λ i. k .slice-known .given i .fits) in
+    (level-first _ _ _ _ _ _ _ (s .pre .1 .0 .whole) words (s .pre .1 .1) _ _ (c .before .before .if1 .taken) (c .ending .ensures) (s .pre .1 .3), s .pre .1 .2)
+
+backward-add-next : (t : ℕ) → backward-lts.Need-add-next (claims t) (backward-at t) backward.Post
+backward-add-next t c = search needs
 
 backward-sub-backward : (t : ℕ) → backward-lts.Need-sub-backward (claims t) (backward-at t) backward.Post
-backward-sub-backward t c = some-left _ _ (sym (c .before .none-from .ensures) ∙ c .if1 .left)
+backward-sub-backward t c = search needs
 
 backward-backward-requires : (t : ℕ) → backward-lts.Need-backward-requires (claims t) (backward-at t) backward.Post
 backward-backward-requires t c κs =
-    let s = c .before .before .before .before .before in
-    let some = some-left _ _ (sym (c .before .none-from .ensures) ∙ c .if1 .left) in
-    (omega arith, (s .pre .1 .0, s .pre .1 .1, s .pre .1 .2, omega arith))
+    let e = c .before .before .before .before in
+    let k = e .before in
+    let s = k .before .before .before in
+    let words = words-of (s .args .t .now) (λ i. k .slice-known .given i .fits) in
+    (omega arith, (s .pre .1 .0, level-going _ _ _ _ _ _ _ (s .pre .1 .0 .whole) words (s .pre .1 .1) (e .if1 .left), s .pre .1 .2, s .pre .1 .3))
 
-backward-add-set : (t : ℕ) → backward-lts.Need-add-set (claims t) (backward-at t) backward.Post
-backward-add-set t c = search needs
+backward-mul-from : (t : ℕ) → backward-lts.Need-mul-from (claims t) (backward-at t) backward.Post
+backward-mul-from t c = search needs
 
-backward-mul-set : (t : ℕ) → backward-lts.Need-mul-set (claims t) (backward-at t) backward.Post
-backward-mul-set t c = search needs
+backward-element-copy-out-from : (t : ℕ) → backward-lts.Need-element-copy-out-from (claims t) (backward-at t) backward.Post
+backward-element-copy-out-from t c = search needs
 
-backward-element-copy-out-set : (t : ℕ) → backward-lts.Need-element-copy-out-set (claims t) (backward-at t) backward.Post
-backward-element-copy-out-set t c = let some = some-left _ _ (sym (c .before .before .none-from .ensures) ∙ c .before .if1 .left) in omega arith
+backward-add-if2 : (t : ℕ) → backward-lts.Need-add-if2 (claims t) (backward-at t) backward.Post
+backward-add-if2 t c = search needs
 
-backward-add-symbols : (t : ℕ) → backward-lts.Need-add-symbols (claims t) (backward-at t) backward.Post
-backward-add-symbols t c = search needs
+backward-mul-if2 : (t : ℕ) → backward-lts.Need-mul-if2 (claims t) (backward-at t) backward.Post
+backward-mul-if2 t c = search needs
 
-backward-mul-symbols : (t : ℕ) → backward-lts.Need-mul-symbols (claims t) (backward-at t) backward.Post
-backward-mul-symbols t c = search needs
+backward-element-copy-out-if2 : (t : ℕ) → backward-lts.Need-element-copy-out-if2 (claims t) (backward-at t) backward.Post
+backward-element-copy-out-if2 t c = search needs
 
-backward-array-read-symbols : (t : ℕ) → backward-lts.Need-array-read-symbols (claims t) (backward-at t) backward.Post
-backward-array-read-symbols t c = let some = some-left _ _ (sym (c .before .before .before .none-from .ensures) ∙ c .before .before .if1 .left) in omega arith
-
-backward-predecessors-requires : (t : ℕ) → backward-lts.Need-predecessors-requires (claims t) (backward-at t) backward.Post
-backward-predecessors-requires t c κs = search needs
-
-backward-mul-behind : (t : ℕ) → backward-lts.Need-mul-behind (claims t) (backward-at t) backward.Post
-backward-mul-behind t c = search needs
-
-backward-element-write-behind : (t : ℕ) → backward-lts.Need-element-write-behind (claims t) (backward-at t) backward.Post
-backward-element-write-behind t c = search needs
+backward-same-length : (t : ℕ) → backward-lts.Need-same-length (claims t) (backward-at t) backward.Post
+backward-same-length t c = search needs
 
 backward-returns-2 : (t : ℕ) → backward-lts.Need-returns-2 (claims t) (backward-at t) backward.Post
 backward-returns-2 t c =
-    let b = c .before .before .before in
-    let e = b .before .before .before in
-    let s = e .before .before .before in
-    let x = s .args .t3 in
-    let d = s .args .d .now in
-    let k = s .args .k in
-    let fit = machine-suited k d x (s .pre .1 .1) (s .pre .1 .2) (search needs) (array-words x (λ i. search needs)) in (
-      backward-next (machine k d) (stateCount d) k x fit (s .args .r) (e .before .accepting .result) _ _ _ (search (needs, b .backward .ok))
-          (some-left _ _ (sym (b .before .before .none-from .ensures) ∙ b .before .if1 .left)) (s .pre .1 .3)
-          (e .before .accepting .ensures ∙ sym (machine-accepting k d)) (e .ending .ensures) (b .backward .ensures .0) (c .predecessors .ensures),
-      c .predecessors .ensures,
+    let b = c .before .before .before .before .before in
+    let e = b .before .before .before .before .before in
+    let k = e .before in
+    let s = k .before .before .before in
+    let words = words-of (s .args .t .now) (λ i. k .slice-known .given i .fits) in (
+      level-all _ _ _ _ _ _ _ (s .pre .1 .0 .whole) words (s .pre .1 .1) (e .if1 .left) _ _ _ (b .backward .ensures .0) (c .if2 .taken),
+      b .backward .ensures .1,
+    )
+
+backward-mul-kept : (t : ℕ) → backward-lts.Need-mul-kept (claims t) (backward-at t) backward.Post
+backward-mul-kept t c =
+    let b = c .before .before .before .before .before .before in
+    let e = b .before .before .before .before .before in
+    let k = e .before in
+    let s = k .before .before .before in
+    let words = words-of (s .args .t .now) (λ i. k .slice-known .given i .fits) in
+    let h = level-inside _ _ _ _ _ _ _ (s .pre .1 .0 .whole) words (s .pre .1 .1) (e .if1 .left) _ _ _ (b .backward .ensures .0) in
+    omega (arith, h, b .backward .ensures .0 .size, s .good)
+
+backward-slice-read-kept : (t : ℕ) → backward-lts.Need-slice-read-kept (claims t) (backward-at t) backward.Post
+backward-slice-read-kept t c =
+    let b = c .before .before .before .before .before .before .before in
+    let e = b .before .before .before .before .before in
+    let k = e .before in
+    let s = k .before .before .before in
+    let words = words-of (s .args .t .now) (λ i. k .slice-known .given i .fits) in
+    level-inside _ _ _ _ _ _ _ (s .pre .1 .0 .whole) words (s .pre .1 .1) (e .if1 .left) _ _ _ (b .backward .ensures .0)
+
+backward-kept-requires : (t : ℕ) → backward-lts.Need-kept-requires (claims t) (backward-at t) backward.Post
+backward-kept-requires t c κs =
+    let b = c .before .before .before .before .before .before .before .before in
+    let e = b .before .before .before .before .before in
+    let k = e .before in
+    let s = k .before .before .before in
+    let words = words-of (s .args .t .now) (λ i. k .slice-known .given i .fits) in (
+      s .pre .1 .0,
+      level-low _ _ _ _ _ _ _ (s .pre .1 .0 .whole) words (s .pre .1 .1) (e .if1 .left) _ _ _ (b .backward .ensures .0),
+      b .backward .ensures .1,
+    )
+
+backward-element-copy-out-put : (t : ℕ) → backward-lts.Need-element-copy-out-put (claims t) (backward-at t) backward.Post
+backward-element-copy-out-put t c = search needs
+
+backward-put-requires : (t : ℕ) → backward-lts.Need-put-requires (claims t) (backward-at t) backward.Post
+backward-put-requires t c κs =
+    let b = c .before .before .before .before .before .before .before .before .before .before .before in
+    let e = b .before .before .before .before .before in
+    let k = e .before in
+    let s = k .before .before .before in
+    let words = words-of (s .args .t .now) (λ i. k .slice-known .given i .fits) in
+    level-inside _ _ _ _ _ _ _ (s .pre .1 .0 .whole) words (s .pre .1 .1) (e .if1 .left) _ _ _ (b .backward .ensures .0)
+
+backward-either-requires : (t : ℕ) → backward-lts.Need-either-requires (claims t) (backward-at t) backward.Post
+backward-either-requires t c κs = search needs
+
+backward-ending-requires-2 : (t : ℕ) → backward-lts.Need-ending-requires-2 (claims t) (backward-at t) backward.Post
+backward-ending-requires-2 t c κs =
+    let b = c .before .before .before .before .before .before .before .before .before .before .before .before .before .before .before in
+    let s = b .before .before .before .before .before .before .before .before .before in
+    (search needs, omega (arith, s .pre .1 .0 .whole .long))
+
+backward-same-length-2 : (t : ℕ) → backward-lts.Need-same-length-2 (claims t) (backward-at t) backward.Post
+backward-same-length-2 t c = search needs
+
+backward-returns-3 : (t : ℕ) → backward-lts.Need-returns-3 (claims t) (backward-at t) backward.Post
+backward-returns-3 t c =
+    let p = c .before .before .before .before in
+    let u = p .before .before .before in
+    let b = u .before .before .before .before .before .before .before .before .before in
+    let e = b .before .before .before .before .before in
+    let k = e .before in
+    let s = k .before .before .before in
+    let words = words-of (s .args .t .now) (λ i. k .slice-known .given i .fits) in (
+      level-next _ _ _ _ _ _ _ (s .pre .1 .0 .whole) words (s .pre .1 .1) (e .if1 .left) _ _ _ (b .backward .ensures .0) _ _ _
+          (c .ending2 .ensures) (u .kept .ensures .1) _ _ _ (p .put .ensures) (c .before .either .ensures),
+      u .kept .ensures .0,
     )
 
 pub +backward-spec : {M : Type 1} → statement M
-+backward-spec = close μ-backward λ t. backward-lts.spec (claims t) (backward-at t) backward.Post
-    (backward-sub-i t)
-    (backward-array-read-ending t)
-    (backward-accepting-requires t)
++backward-spec = close μ-backward λ t. backward-lts.spec (claims t)
+    (backward-at t)
+    backward.Post
+    (backward-mul-ending t)
+    (backward-element-copy-out-ending t)
     (backward-ending-requires t)
-    (backward-array-read-none-from t)
-    (backward-add-none-from t)
-    (backward-none-from-requires t)
-    (backward-mul-sets t)
-    (backward-array-write-sets t)
     (backward-returns t)
+    (backward-add-next t)
     (backward-sub-backward t)
     (backward-backward-requires t)
-    (backward-add-set t)
-    (backward-mul-set t)
-    (backward-element-copy-out-set t)
-    (backward-add-symbols t)
-    (backward-mul-symbols t)
-    (backward-array-read-symbols t)
-    (backward-predecessors-requires t)
-    (backward-mul-behind t)
-    (backward-element-write-behind t)
+    (backward-mul-from t)
+    (backward-element-copy-out-from t)
+    (backward-add-if2 t)
+    (backward-mul-if2 t)
+    (backward-element-copy-out-if2 t)
+    (backward-same-length t)
     (backward-returns-2 t)
+    (backward-mul-kept t)
+    (backward-slice-read-kept t)
+    (backward-kept-requires t)
+    (backward-element-copy-out-put t)
+    (backward-put-requires t)
+    (backward-either-requires t)
+    (backward-ending-requires-2 t)
+    (backward-same-length-2 t)
+    (backward-returns-3 t)

@@ -1,13 +1,16 @@
+use mathlib.Core.Path.{_≡_, _∙_}
 use Prim.Native.Nat.{_+_, _-_, _≤_}
-use native.Mathlib.Omega.{arith}
-use lib.ListN.{length}
-use mathlib.Core.Path.{_≡_, refl}
-use Rattle.automata.specs.Machine.{stateCount, machine}
-use Rattle.automata.specs.StateSets.{Successors}
-use Rattle.automata.proofs.SetLaws.{gathered-empty, no-bit}
-use Rattle.rows.proofs.Fill.{array-words}
+use lib.ListN.{length, length-set}
+use lib.Seq.{getD-set-same}
+use Rattle.laws.proofs.TableLaws.{words-of}
+use Rattle.model.specs.Domains.{row}
+use Rattle.automata.specs.Machine.{machine}
 use Rattle.regular.specs.PlaceSets.{Forward}
-use Rattle.regular.proofs.StateLaws.{machine-suited, forward-start, forward-step, forward-upto}
+use Rattle.regular.specs.Asks.{Forwards}
+use Rattle.regular.proofs.StateLaws.{forward-start, forward-less}
+use Rattle.regular.proofs.AskLaws.{forwards-none}
+use Rattle.regular.proofs.StepLaws.{place-low, forward-turn}
+use native.Mathlib.Omega.{arith}
 use borrow.Author.Needs.{needs}
 use Rattle.regular.proofs.forward.Statement.{statement}
 use Rattle.regular.proofs.forward.Tie as tie
@@ -16,35 +19,53 @@ use Rattle.regular.proofs.forward.Lts as lts
 use Rattle.regular.proofs.successors.Reads as successors-reads
 
 abbrev Inv-loop : tie.InvT-loop
-Inv-loop d k x sets₀ last₀ i₀ sets last i =
-    (i ≤ 63) × (length sets ≡ 64) × Forward (machine k d) x (i + 1) sets × Successors (machine k d) (stateCount d) k (last .set) (last .symbols) (last .states)
+Inv-loop d k kinds at tos₀ t x longest sets₀ last₀ i₀ tos sets last i =
+    (i ≤ longest) × (length sets ≡ 64) × Forward (machine k d) (row t x) (i + 1) sets
+    × Forwards k d kinds at (last .set) (last .symbols) (last .states) (last .word) (last .firsts) tos
 
 abbrev μ-loop : tie.MeasureT-loop
-μ-loop d k x sets₀ last₀ i₀ sets last i = 63 - i
+μ-loop d k kinds at tos₀ t x longest sets₀ last₀ i₀ tos sets last i = longest - i
 
-array-write-sets : tie.Need-array-write-sets Inv-loop μ-loop
-array-write-sets c = search needs
+element-write-sets : tie.Need-element-write-sets Inv-loop μ-loop
+element-write-sets c = search needs
 
 loop-holds : tie.Need-loop-holds Inv-loop μ-loop
-loop-holds c = (search needs, search needs, forward-start _ _ _ refl, gathered-empty _ _ (λ i t x. no-bit _ i refl (x .0)))
+loop-holds c =
+    let s = c .before .before .before in (
+      search needs,
+      length-set (s .args .sets .now) 0 1 ∙ s .pre .5,
+      forward-start _ _ _ (getD-set-same (s .args .sets .now) 0 1 0 (omega (arith, s .pre .5))),
+      forwards-none _ _ _ _ (s .pre .0) _ (s .pre .1),
+    )
 
-mul-set : tie.Need-mul-set Inv-loop μ-loop
-mul-set c = search needs
+mul-successors : tie.Need-mul-successors Inv-loop μ-loop
+mul-successors c = search needs
 
-array-read-set : tie.Need-array-read-set Inv-loop μ-loop
-array-read-set c = search needs
+element-copy-out-successors : tie.Need-element-copy-out-successors Inv-loop μ-loop
+element-copy-out-successors c = search needs
 
-add-symbols : tie.Need-add-symbols Inv-loop μ-loop
-add-symbols c = search needs
+mul-successors-2 : tie.Need-mul-successors-2 Inv-loop μ-loop
+mul-successors-2 c = search needs
 
-mul-symbols : tie.Need-mul-symbols Inv-loop μ-loop
-mul-symbols c = search needs
+add-successors : tie.Need-add-successors Inv-loop μ-loop
+add-successors c = search needs
 
-array-read-symbols : tie.Need-array-read-symbols Inv-loop μ-loop
-array-read-symbols c = search needs
+add-successors-2 : tie.Need-add-successors-2 Inv-loop μ-loop
+add-successors-2 c = search needs
+
+mul-successors-3 : tie.Need-mul-successors-3 Inv-loop μ-loop
+mul-successors-3 c = search needs
+
+shared-slice-read-successors : tie.Need-shared-slice-read-successors Inv-loop μ-loop
+shared-slice-read-successors c = search needs
 
 successors-requires : tie.Need-successors-requires Inv-loop μ-loop
-successors-requires c κs = search needs
+successors-requires c κs =
+    let l = c .before .before .before .before .loop in
+    let b = c .before .before .before .before .before in
+    let s = b .before .before .before in
+    let words = words-of (s .args .t .now) (λ i. b .shared-slice-known3 .given i .fits) in
+    (s .pre .0, place-low _ _ _ _ (s .pre .0 .whole) (s .pre .2) (s .pre .3) words (l .i) (omega arith), l .inv .3)
 
 add-sets : tie.Need-add-sets Inv-loop μ-loop
 add-sets c = search needs
@@ -52,8 +73,8 @@ add-sets c = search needs
 mul-sets : tie.Need-mul-sets Inv-loop μ-loop
 mul-sets c = search needs
 
-array-write-sets-2 : tie.Need-array-write-sets-2 Inv-loop μ-loop
-array-write-sets-2 c = search needs
+element-write-sets-2 : tie.Need-element-write-sets-2 Inv-loop μ-loop
+element-write-sets-2 c = search needs
 
 add-i : tie.Need-add-i Inv-loop μ-loop
 add-i c = search needs
@@ -63,22 +84,19 @@ loop-less c = search needs
 
 loop-again : tie.Need-loop-again Inv-loop μ-loop
 loop-again c =
-    let l = c .before .before .loop in
-    let s = c .before .before .before .before in
-    let x = s .args .t3 in
-    let d = s .args .d .now in
-    let fit = machine-suited (s .args .k) d x (s .pre .1) (s .pre .2) (search needs) (array-words x (λ i. search needs)) in (
+    let l = c .before .before .before .before .before .loop in
+    let b = c .before .before .before .before .before .before in
+    let s = b .before .before .before in
+    let words = words-of (s .args .t .now) (λ i. b .shared-slice-known3 .given i .fits) in
+    let e = c .successors .ensures in (
       search needs,
-      search needs,
-      forward-step (machine (s .args .k) d) (stateCount d) (s .args .k) x fit (l .i) _ (l .sets)
-          (omega (arith, l .inv .1)) (l .inv .2) (c .successors .ensures),
-      c .successors .ensures,
+      length-set (l .sets) (l .i + 1) (c .successors .result .states) ∙ l .inv .1,
+      forward-turn _ _ _ _ (s .pre .0 .whole) (s .pre .2) (s .pre .3) words (l .i) _ _ (omega arith) (l .inv .1) (l .inv .2) (rw (e .1, e .2) at (e .0 .steps)),
+      e .0,
     )
 
 returns : tie.Need-returns Inv-loop μ-loop
-returns c =
-    let l = c .before .loop in
-    forward-upto _ _ _ _ _ (omega arith) (l .inv .2)
+returns c = (forward-less _ _ _ _ _ (omega arith) (c .before .loop .inv .2), c .before .loop .inv .3)
 
 pub forward-spec : {M : Type 1} → statement M
 forward-spec =
@@ -86,17 +104,19 @@ forward-spec =
     (tie.spec
     Inv-loop
     μ-loop
-    array-write-sets
+    element-write-sets
     loop-holds
-    mul-set
-    array-read-set
-    add-symbols
-    mul-symbols
-    array-read-symbols
+    mul-successors
+    element-copy-out-successors
+    mul-successors-2
+    add-successors
+    add-successors-2
+    mul-successors-3
+    shared-slice-read-successors
     successors-requires
     add-sets
     mul-sets
-    array-write-sets-2
+    element-write-sets-2
     add-i
     loop-less
     loop-again

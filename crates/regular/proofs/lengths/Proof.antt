@@ -26,24 +26,24 @@ lowest-requires c κs = search needs
 singleton-requires : tie.Need-singleton-requires Inv-loop μ-loop
 singleton-requires c κs = search needs
 
+element-copy-out-if1 : tie.Need-element-copy-out-if1 Inv-loop μ-loop
+element-copy-out-if1 c = search needs
+
 mul-if1 : tie.Need-mul-if1 Inv-loop μ-loop
 mul-if1 c = search needs
 
-array-read-if1 : tie.Need-array-read-if1 Inv-loop μ-loop
-array-read-if1 c = search needs
-
 sub-rest : tie.Need-sub-rest Inv-loop μ-loop
-sub-rest c = lowest-off _ _ _ (c .before .before .lowest .ensures) (c .before .singleton .ensures) .0
+sub-rest c = lowest-off _ _ _ (c .before .before .before .lowest .ensures) (c .before .before .singleton .ensures) .0
 
 loop-less : tie.Need-loop-less Inv-loop μ-loop
-loop-less c = lowest-off _ _ _ (c .before .before .lowest .ensures) (c .before .singleton .ensures) .1
+loop-less c = lowest-off _ _ _ (c .before .before .before .lowest .ensures) (c .before .before .singleton .ensures) .1
 
 loop-again : tie.Need-loop-again Inv-loop μ-loop
 loop-again c =
-    let l = c .before .before in
+    let l = c .before .before .before in
     let g = l .before .before .loop .inv in
-    let before = l .before .before .before .args .t3 in
-    let o = c .before .singleton .ensures in
+    let before = l .before .before .before .args .before .now in
+    let o = c .before .before .singleton .ensures in
     ⊎-elim
     (λ w. lengths-add _ _ before _ _ _ _ _ g (l .lowest .ensures) o (search needs) (w .0 .taken) (w .1))
     (λ w. lengths-skip _ _ before _ _ _ _ _ g (l .lowest .ensures) o (w .0 .left) (w .1))
@@ -62,7 +62,7 @@ lengths-spec =
     lowest-requires
     singleton-requires
     mul-if1
-    array-read-if1
+    element-copy-out-if1
     sub-rest
     loop-less
     loop-again

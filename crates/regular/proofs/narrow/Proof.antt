@@ -1,141 +1,143 @@
-use mathlib.Core.Path.{refl, sym, _∙_}
-use Prim.Native.Nat.{_-_, _≤_}
+use Prim.Native.Nat.{ℕ}
 use native.Mathlib.Omega.{arith}
-use Rattle.rows.proofs.Fill.{array-words}
-use Rattle.automata.specs.Machine.{stateCount, machine}
-use Rattle.automata.proofs.MachineLaws.{machine-accepting}
-use Rattle.automata.proofs.SetLaws.{gathered-empty, no-bit}
-use Rattle.regular.specs.PlaceSets.{Symbols}
-use Rattle.regular.proofs.StateLaws.{machine-suited}
-use Rattle.regular.proofs.RegularLaws.{Kept, kept-start, kept-upto, kept-step, regular-narrowed}
+use mathlib.Core.Path.{refl}
+use mathlib.Core.Bool.{false}
+use Rattle.laws.proofs.TableLaws.{words-of}
+use Rattle.regular.proofs.AskLaws.{forgotten-start}
+use Rattle.inplace.proofs.Parts.{tidy-lengths}
+use Rattle.regular.proofs.StepLaws.{steps-none, going, going-all, regular-none, regular-ready, regular-left}
 use borrow.Author.Needs.{needs}
 use Rattle.regular.proofs.narrow.Statement.{statement}
 use Rattle.regular.proofs.narrow.Tie as tie
 use Rattle.regular.proofs.narrow.Reads as reads
 use Rattle.regular.proofs.narrow.Lts as lts
 use Rattle.automata.proofs.accepting.Reads as accepting-reads
+use Rattle.inplace.proofs.either.Reads as either-reads
+use Rattle.inplace.proofs.nothing.Reads as nothing-reads
+use Rattle.inplace.proofs.shorten.Reads as shorten-reads
 use Rattle.regular.proofs.backward.Reads as backward-reads
 use Rattle.regular.proofs.forward.Reads as forward-reads
-use Rattle.regular.proofs.kept.Reads as kept-reads
 use Rattle.regular.proofs.lengths.Reads as lengths-reads
+use Rattle.words.proofs.highest.Reads as highest-reads
 
-abbrev Inv-loop : tie.InvT-loop
-Inv-loop d k x before after first r₀ last₀ i₀ r last i =
-    (i ≤ 63) × Kept (machine k d) (stateCount d) k x before after i r
-    × Symbols (machine k d) (stateCount d) k (last .allowed) (last .from) (last .into) (last .symbols)
+mul-start : tie.Need-mul-start
+mul-start c = search needs
 
-abbrev μ-loop : tie.MeasureT-loop
-μ-loop d k x before after first r₀ last₀ i₀ r last i = 63 - i
-
-forward-requires : tie.Need-forward-requires Inv-loop μ-loop
-forward-requires c κs = search needs
-
-backward-requires : tie.Need-backward-requires Inv-loop μ-loop
-backward-requires c κs = search needs
-
-array-read-lengths : tie.Need-array-read-lengths Inv-loop μ-loop
-array-read-lengths c = search needs
-
-accepting-requires : tie.Need-accepting-requires Inv-loop μ-loop
-accepting-requires c κs = search needs
-
-lengths-requires : tie.Need-lengths-requires Inv-loop μ-loop
-lengths-requires c κs = search needs
-
-array-write-r : tie.Need-array-write-r Inv-loop μ-loop
-array-write-r c = search needs
-
-loop-holds : tie.Need-loop-holds Inv-loop μ-loop
-loop-holds c = (
-  search needs,
-  kept-start _ _ _ _ _ _ _ _ refl (c .before .accepting .ensures ∙ sym (machine-accepting _ _)) (c .lengths .ensures),
-  gathered-empty _ _ (λ i t x. no-bit _ i refl (x .1)),
-)
-
-add-allowed : tie.Need-add-allowed Inv-loop μ-loop
-add-allowed c = search needs
-
-mul-allowed : tie.Need-mul-allowed Inv-loop μ-loop
+mul-allowed : tie.Need-mul-allowed
 mul-allowed c = search needs
 
-array-read-allowed : tie.Need-array-read-allowed Inv-loop μ-loop
-array-read-allowed c = search needs
+slice-read-allowed : tie.Need-slice-read-allowed
+slice-read-allowed c = search needs
 
-mul-from : tie.Need-mul-from Inv-loop μ-loop
-mul-from c = search needs
+highest-requires : tie.Need-highest-requires
+highest-requires c κs = let s = c .before .before .before .before in tidy-lengths _ _ (s .pre .6)
 
-array-read-from : tie.Need-array-read-from Inv-loop μ-loop
-array-read-from c = search needs
+forward-requires : tie.Need-forward-requires
+forward-requires c κs =
+    let s = c .before .before .before .before .before .before .before .before in
+    (record { most = s .pre .0; whole = s .pre .1; kinds = s .pre .2; room = s .pre .3 }, forgotten-start, search needs, search needs, search needs, refl)
 
-add-into : tie.Need-add-into Inv-loop μ-loop
-add-into c = search needs
+accepting-requires : tie.Need-accepting-requires
+accepting-requires c κs = search needs
 
-mul-into : tie.Need-mul-into Inv-loop μ-loop
-mul-into c = search needs
+lengths-requires : tie.Need-lengths-requires
+lengths-requires c κs = search needs
 
-array-read-into : tie.Need-array-read-into Inv-loop μ-loop
-array-read-into c = search needs
+nothing-requires : tie.Need-nothing-requires
+nothing-requires c κs = search needs
 
-kept-requires : tie.Need-kept-requires Inv-loop μ-loop
-kept-requires c κs = search needs
+same-length : tie.Need-same-length
+same-length c = search needs
 
-add-r : tie.Need-add-r Inv-loop μ-loop
-add-r c = search needs
-
-mul-r : tie.Need-mul-r Inv-loop μ-loop
-mul-r c = search needs
-
-array-write-r-2 : tie.Need-array-write-r-2 Inv-loop μ-loop
-array-write-r-2 c = search needs
-
-add-i : tie.Need-add-i Inv-loop μ-loop
-add-i c = search needs
-
-loop-less : tie.Need-loop-less Inv-loop μ-loop
-loop-less c = search needs
-
-loop-again : tie.Need-loop-again Inv-loop μ-loop
-loop-again c =
-    let l = c .before .before .loop in
-    (search needs, kept-step _ _ _ _ _ _ _ _ _ (omega arith) (l .inv .1) (c .kept .ensures), c .kept .ensures)
-
-returns : tie.Need-returns Inv-loop μ-loop
+returns : tie.Need-returns
 returns c =
-    let l = c .before .loop in
-    let b = c .before .before .before .before .before in
-    let s = b .before .before .before in
-    let x = s .args .t3 in
-    let d = s .args .d .now in
-    let k = s .args .k in
-    let fit = machine-suited k d x (s .pre .1) (s .pre .2) (search needs) (array-words x (λ i. search needs)) in
-    regular-narrowed _ _ _ _ _ _ _ fit (b .before .forward .ensures) (b .backward .ensures .0) (kept-upto _ _ _ _ _ _ _ 63 _ (omega arith) (l .inv .1))
+    let e = c .before .before in
+    let f = e .before .before .before in
+    let k = f .before .before .before .before .before in
+    let s = k .before .before .before .before in
+    let words = words-of (s .args .t .now) (λ i. k .slice-known2 .given i .fits) in
+    regular-none _ _ _ _ (s .pre .1) (s .pre .4) (s .pre .5) words (s .pre .6) _ _ _ _ (f .before .before .before .before .highest .ensures) (f .forward .ensures .0)
+    (e .before .before .accepting .ensures) (e .lengths .ensures) (c .before .if1 .taken) _ (c .nothing .ensures)
+
+highest-requires-2 : tie.Need-highest-requires-2
+highest-requires-2 c κs = search needs
+
+array-write-last : tie.Need-array-write-last
+array-write-last c = search needs
+
+array-write-last-2 : tie.Need-array-write-last-2
+array-write-last-2 c = search needs
+
+backward-requires : tie.Need-backward-requires
+backward-requires c κs =
+    let h = c .before .before .before .before .before in
+    let e = h .before .before in
+    let f = e .before .before .before in
+    let k = f .before .before .before .before .before in
+    let s = k .before .before .before .before in
+    let words = words-of (s .args .t .now) (λ i. k .slice-known2 .given i .fits) in (
+      record { most = s .pre .0; whole = s .pre .1; kinds = s .pre .2; room = s .pre .3 },
+      going-all _ _ _ _ _ _ _ (s .pre .1) words (going _ _ _ _ (s .pre .1) (s .pre .4) (s .pre .5) words
+          (s .pre .6) _ _ _ _ (f .before .before .before .before .highest .ensures) (f .forward .ensures .0)
+          (e .before .before .accepting .ensures) (e .lengths .ensures) _ (h .highest2 .ensures)),
+      record {
+        size = refl {A = ℕ} {a = 7};
+        small = omega arith;
+        place = record { steps = steps-none _ _ _; first = f .forward .ensures .1 .first; targets = f .forward .ensures .1 .targets };
+      },
+      refl {a = false},
+    )
+
+shorten-requires : tie.Need-shorten-requires
+shorten-requires c κs =
+    let h = c .before .before .before .before .before .before .before .before .before in
+    let e = h .before .before in
+    let f = e .before .before .before in
+    let k = f .before .before .before .before .before in
+    let s = k .before .before .before .before in
+    let words = words-of (s .args .t .now) (λ i. k .slice-known2 .given i .fits) in
+    let go = going _ _ _ _ (s .pre .1) (s .pre .4) (s .pre .5) words (s .pre .6) _ _ _ _ (f .before .before .before .before .highest .ensures) (f .forward .ensures .0)
+    (e .before .before .accepting .ensures) (e .lengths .ensures) _ (h .highest2 .ensures) in
+    regular-ready _ _ _ _ _ _ _ (s .pre .1) words go _ _ _ (c .before .before .before .backward .ensures .0)
+
+either-requires : tie.Need-either-requires
+either-requires c κs = search needs
+
+same-length-2 : tie.Need-same-length-2
+same-length-2 c = search needs
+
+returns-2 : tie.Need-returns-2
+returns-2 c =
+    let b = c .before .before .before .before .before .before .before in
+    let h = b .before .before .before .before .before .before in
+    let e = h .before .before in
+    let f = e .before .before .before in
+    let k = f .before .before .before .before .before in
+    let s = k .before .before .before .before in
+    let words = words-of (s .args .t .now) (λ i. k .slice-known2 .given i .fits) in
+    let go = going _ _ _ _ (s .pre .1) (s .pre .4) (s .pre .5) words (s .pre .6) _ _ _ _ (f .before .before .before .before .highest .ensures) (f .forward .ensures .0)
+    (e .before .before .accepting .ensures) (e .lengths .ensures) _ (h .highest2 .ensures) in
+    regular-left _ _ _ _ _ _ _ (s .pre .1) words go _ _ _ (b .backward .ensures .0) _ _ (c .before .before .before .shorten .ensures) _ (c .either .ensures)
 
 pub narrow-spec : {M : Type 1} → statement M
 narrow-spec =
     tie.close
     (tie.spec
-    Inv-loop
-    μ-loop
+    mul-start
+    mul-allowed
+    slice-read-allowed
+    highest-requires
     forward-requires
-    backward-requires
-    array-read-lengths
     accepting-requires
     lengths-requires
-    array-write-r
-    loop-holds
-    add-allowed
-    mul-allowed
-    array-read-allowed
-    mul-from
-    array-read-from
-    add-into
-    mul-into
-    array-read-into
-    kept-requires
-    add-r
-    mul-r
-    array-write-r-2
-    add-i
-    loop-less
-    loop-again
-    returns)
+    nothing-requires
+    same-length
+    returns
+    highest-requires-2
+    array-write-last
+    array-write-last-2
+    backward-requires
+    shorten-requires
+    either-requires
+    same-length-2
+    returns-2)

@@ -1,12 +1,20 @@
+use mathlib.Core.Path.{refl}
+use Rattle.regular.proofs.AskLaws.{turned-targets, forwards-kinds}
 use borrow.Author.Needs.{needs}
 use Rattle.regular.proofs.successors.Statement.{statement}
 use Rattle.regular.proofs.successors.Tie as tie
 use Rattle.regular.proofs.successors.Reads as reads
 use Rattle.regular.proofs.successors.Lts as lts
 use Rattle.automata.proofs.successors.Reads as successors-reads
+use Rattle.automata.proofs.steps_to.Reads as steps-to-reads
+use Rattle.regular.proofs.turn.Reads as turn-reads
+use Rattle.words.proofs.several.Reads as several-reads
 
 returns : tie.Need-returns
-returns c = rw (c .before .before .if1 .taken, c .if2 .taken) (c .before .before .before .before .before .pre .2)
+returns c = search needs
+
+several-requires : tie.Need-several-requires
+several-requires c κs = search needs
 
 successors-requires : tie.Need-successors-requires
 successors-requires c κs = search needs
@@ -14,5 +22,29 @@ successors-requires c κs = search needs
 returns-2 : tie.Need-returns-2
 returns-2 c = search needs
 
+turn-requires : tie.Need-turn-requires
+turn-requires c κs = search needs
+
+steps-to-requires : tie.Need-steps-to-requires
+steps-to-requires c κs =
+    let u = c .before in
+    let s = u .before .before .before .before .before .before .before .before in
+    (search needs, search needs, turned-targets _ _ _ _ (s .pre .0) _ _ _ _ _ (u .turn .ensures) (s .pre .2 .targets))
+
+returns-3 : tie.Need-returns-3
+returns-3 c =
+    let u = c .before .before in
+    let s = u .before .before .before .before .before .before .before .before in
+    (forwards-kinds _ _ _ _ (s .pre .0) _ _ _ _ _ (u .turn .ensures) (s .pre .1) (search needs) _ _ _ (c .steps-to .ensures), refl, refl)
+
 pub successors-spec : {M : Type 1} → statement M
-successors-spec = tie.close (tie.spec returns successors-requires returns-2)
+successors-spec =
+    tie.close
+    (tie.spec
+    returns
+    several-requires
+    successors-requires
+    returns-2
+    turn-requires
+    steps-to-requires
+    returns-3)

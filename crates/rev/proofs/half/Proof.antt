@@ -1,65 +1,58 @@
-use borrow.Author.Needs.{needs}
-use mathlib.Core.Path.{_≡_, refl, sym, _∙_}
-use mathlib.Core.Logic.{⊎-elim}
-use Prim.Native.Nat.{_-_, _≤_}
-use native.Mathlib.Omega.{arith}
-use native.Mathlib.Numerals.{add-one}
-use lib.Bits.{bitAnd}
-use Rattle.model.specs.Words.{word}
+use Rattle.model.specs.Domains.{row}
 use Rattle.model.specs.Solutions.{textBit}
-use Rattle.laws.proofs.Supports.{no-kinds}
-use Rattle.rev.specs.Turned.{Turned, Turning}
-use Rattle.rev.proofs.RevLaws.{unchanged}
+use Rattle.laws.specs.Inclusion.{Within}
+use Rattle.laws.specs.Supported.{Supports}
+use Rattle.rev.specs.Turned.{Mirrored}
+use Rattle.rev.proofs.TurnLaws.{half-start, rest-less, half-turn}
+use borrow.Author.Needs.{needs}
 use Rattle.rev.proofs.half.Statement.{statement}
 use Rattle.rev.proofs.half.Tie as tie
 use Rattle.rev.proofs.half.Reads as reads
 use Rattle.rev.proofs.half.Lts as lts
 use Rattle.rev.proofs.widen.Reads as widen-reads
-use Rattle.words.proofs.has.Reads as has-reads
+use Rattle.words.proofs.lowest.Reads as lowest-reads
+use Rattle.words.proofs.singleton.Reads as singleton-reads
 
 abbrev Inv-loop : tie.InvT-loop
-Inv-loop x y lengths r₀ l₀ r l = (l ≤ 64) × (lengths ≡ bitAnd (word x 0) (word y 0)) × Turning x y l r
+Inv-loop t x y ls r₀ rest₀ r rest = Within rest ls × Supports (Mirrored (row t x) (row t y) rest) textBit 64 r
 
 abbrev μ-loop : tie.MeasureT-loop
-μ-loop x y lengths r₀ l₀ r l = 64 - l
-
-array-read-lengths : tie.Need-array-read-lengths Inv-loop μ-loop
-array-read-lengths c = search needs
-
-array-read-lengths-2 : tie.Need-array-read-lengths-2 Inv-loop μ-loop
-array-read-lengths-2 c = search needs
+μ-loop t x y ls r₀ rest₀ r rest = rest
 
 loop-holds : tie.Need-loop-holds Inv-loop μ-loop
-loop-holds c = (search needs, refl, no-kinds (Turned (c .args .t1) (c .args .t2)) textBit 64)
+loop-holds c = (λ b e. e, half-start _ _ _ _ (c .before .pre .2))
 
-has-requires : tie.Need-has-requires Inv-loop μ-loop
-has-requires c κs = search needs
+lowest-requires : tie.Need-lowest-requires Inv-loop μ-loop
+lowest-requires c κs = search needs
 
 widen-requires : tie.Need-widen-requires Inv-loop μ-loop
-widen-requires c κs = (search needs, rw (← c .before .before .before .loop .inv .1) (sym (c .before .has .ensures) ∙ c .if1 .taken))
+widen-requires c κs =
+    let w = c .before in
+    let l = w .before .before in
+    let a = l .before .before in
+    let o = a .pre .2 in
+    let h = w .lowest .ensures in
+    let g = l .loop .inv .0 _ (h .here) in
+    (record { fits-x = a .pre .0; fits-y = a .pre .1; small = h .small; in-x = o .first _ g; in-y = o .second _ g }, l .loop .inv .1 .count)
 
-add-l : tie.Need-add-l Inv-loop μ-loop
-add-l c = search needs
+singleton-requires : tie.Need-singleton-requires Inv-loop μ-loop
+singleton-requires c κs = c .before .before .lowest .ensures .small
+
+sub-rest : tie.Need-sub-rest Inv-loop μ-loop
+sub-rest c = rest-less _ _ _ (c .before .before .before .lowest .ensures .here) (c .singleton .ensures) .0
 
 loop-less : tie.Need-loop-less Inv-loop μ-loop
-loop-less c = search needs
+loop-less c = rest-less _ _ _ (c .before .before .before .lowest .ensures .here) (c .singleton .ensures) .1
 
 loop-again : tie.Need-loop-again Inv-loop μ-loop
 loop-again c =
-    let l = c .before .before .before .loop in
-    let h = c .before .has .ensures in (
-      search needs,
-      l .inv .1,
-      rw add-one (⊎-elim
-          (λ w. rw (w .2) (w .1 .ensures (l .inv .2)))
-          (λ w. rw (w .1) (unchanged _ _ _ (rw (← l .inv .1) (sym h ∙ w .0 .left)) _ (l .inv .2)))
-          (c .if1 .came)),
-    )
+    let w = c .before in
+    let m = w .before .before in
+    let l = m .before .before in
+    half-turn _ _ _ _ _ _ _ _ _ (m .lowest .ensures .here) (c .singleton .ensures) (w .widen .ensures) (l .loop .inv .0) (l .loop .inv .1)
 
 returns : tie.Need-returns Inv-loop μ-loop
-returns c =
-    let e : c .before .loop .l ≡ 64 = omega arith in
-    rw e at (c .before .loop .inv .2)
+returns c = rw (c .loop-test .left) at (c .before .loop .inv .1)
 
 pub half-spec : {M : Type 1} → statement M
 half-spec =
@@ -67,12 +60,11 @@ half-spec =
     (tie.spec
     Inv-loop
     μ-loop
-    array-read-lengths
-    array-read-lengths-2
     loop-holds
-    has-requires
+    lowest-requires
     widen-requires
-    add-l
+    singleton-requires
+    sub-rest
     loop-less
     loop-again
     returns)

@@ -1,3 +1,4 @@
+use mathlib.Core.Path.{_≡_}
 use Prim.Native.Nat.{_-_, _≤_}
 use native.Mathlib.Omega.{arith}
 use Rattle.model.specs.Words.{size}
@@ -5,53 +6,49 @@ use Rattle.laws.proofs.CallLaws.{lendable-length}
 use Rattle.format.specs.Accepting.{problemIn}
 use Rattle.format.proofs.ContentLaws.{usable-counts}
 use Rattle.list.proofs.StepWalkLaws.{Walked, walk-start}
-use Rattle.rounds.proofs.RoundWalks.{trims, Begins, begins-first, trim-room, trim-next, trim-few, trim-lent, round-lent, round-few, round-less, round-next, round-last}
+use Rattle.rounds.proofs.RoundWalks.{trims, Begins, begins-first, lent-short, trim-room, trim-next, trim-lent, round-lent, round-less, round-next, round-last}
 use borrow.Author.Needs.{needs}
 use Rattle.rounds.proofs.settle.Statement.{statement}
 use Rattle.rounds.proofs.settle.Tie as tie
 use Rattle.rounds.proofs.settle.Reads as reads
 use Rattle.rounds.proofs.settle.Lts as lts
-use Rattle.list.proofs.own_steps.Reads as own-steps-reads
 use Rattle.list.proofs.of_file.Reads as of-file-reads
-use Rattle.steps.proofs.trim.Reads as trim-reads
+use Rattle.list.proofs.own_steps.Reads as own-steps-reads
+use Rattle.rounds.proofs.bits.Reads as bits-reads
+use Rattle.steps.proofs.trim_row.Reads as trim-row-reads
 
 abbrev Inv-loop2 : tie.InvT-loop2
-Inv-loop2 file p table₀ constraints n struck₀ x₀ x-end table struck x = (x ≤ x-end) × Walked (problemIn file p) (trims
-    (problemIn file p)) table₀ struck₀ x table struck
+Inv-loop2 file p table₀ constraints n before x₀ x-end table x = (x ≤ x-end) × Walked (problemIn file p) (trims (problemIn file p)) table₀ x table
 
 abbrev μ-loop2 : tie.MeasureT-loop2
-μ-loop2 file p table₀ constraints n struck₀ x₀ x-end table struck x = x-end - x
+μ-loop2 file p table₀ constraints n before x₀ x-end table x = x-end - x
 
 abbrev Inv-loop : tie.InvT-loop
-Inv-loop file p table₀ constraints n₀ table n = Begins (problemIn file p) table₀ table n
+Inv-loop file p table₀ constraints n₀ before₀ table n before = Begins (problemIn file p) table₀ table n × (before ≡ size table)
 
 -- every round but the last strikes a bit
 abbrev μ-loop : tie.MeasureT-loop
-μ-loop file p table₀ constraints n₀ table n = size table
+μ-loop file p table₀ constraints n₀ before₀ table n before = size table
 
 of-file-requires : tie.Need-of-file-requires Inv-loop2 μ-loop2 Inv-loop μ-loop
 of-file-requires c κs = c .before .before .pre .0
 
+bits-requires : tie.Need-bits-requires Inv-loop2 μ-loop2 Inv-loop μ-loop
+bits-requires c κs = let s = c .before .before .before .before in lent-short (usable-counts _ _ (s .pre .0)) _ (s .pre .1)
+
 loop-holds : tie.Need-loop-holds Inv-loop2 μ-loop2 Inv-loop μ-loop
-loop-holds c = begins-first _ _ (c .before .before .before .pre .1)
+loop-holds c = (begins-first _ _ (c .before .before .before .before .before .pre .1), c .bits .ensures)
 
 -- ---- the walk over the strings
 
 loop2-holds : tie.Need-loop2-holds Inv-loop2 μ-loop2 Inv-loop μ-loop
-loop2-holds c = (search needs, walk-start _ _ _ _)
+loop2-holds c = (search needs, walk-start _ _ _)
 
-trim-requires : tie.Need-trim-requires Inv-loop2 μ-loop2 Inv-loop μ-loop
-trim-requires c κs =
+trim-row-requires : tie.Need-trim-row-requires Inv-loop2 μ-loop2 Inv-loop μ-loop
+trim-row-requires c κs =
     let l = c .before .before in
     let r = l .before in
-    trim-room (usable-counts _ _ (r .before .before .before .before .pre .0)) (r .loop .inv) (l .loop2 .inv .1) (search needs)
-
-add-struck : tie.Need-add-struck Inv-loop2 μ-loop2 Inv-loop μ-loop
-add-struck c =
-    let l = c .before .before .before .before .before in
-    let r = l .before in
-    let h = usable-counts _ _ (r .before .before .before .before .pre .0) in
-    omega (arith, trim-few h (r .loop .inv) (trim-next h (r .loop .inv) (l .loop2 .inv .1) (search needs) (c .before .before .trim .ensures)))
+    trim-room (usable-counts _ _ (r .before .before .before .before .before .before .pre .0)) (r .loop .inv .0) (l .loop2 .inv .1) (search needs)
 
 add-x : tie.Need-add-x Inv-loop2 μ-loop2 Inv-loop μ-loop
 add-x c = search needs
@@ -63,8 +60,8 @@ loop2-again : tie.Need-loop2-again Inv-loop2 μ-loop2 Inv-loop μ-loop
 loop2-again c =
     let l = c .before .before .before .before .before in
     let r = l .before in
-    let h = usable-counts _ _ (r .before .before .before .before .pre .0) in
-    (search needs, trim-next h (r .loop .inv) (l .loop2 .inv .1) (search needs) (c .before .before .trim .ensures))
+    let h = usable-counts _ _ (r .before .before .before .before .before .before .pre .0) in
+    (search needs, trim-next h (r .loop .inv .0) (l .loop2 .inv .1) (search needs) (c .before .before .trim-row .ensures))
 
 -- ---- the walk over the constraints
 
@@ -72,55 +69,66 @@ own-steps-requires : tie.Need-own-steps-requires Inv-loop2 μ-loop2 Inv-loop μ-
 own-steps-requires c κs =
     let l = c .before .before in
     let r = l .before in
-    let u = r .before .before .before .before .pre .0 in
-    (u, trim-lent (usable-counts _ _ u) (r .loop .inv) (l .loop2 .inv .1), r .before .of-file .ensures)
+    let u = r .before .before .before .before .before .before .pre .0 in
+    (u, trim-lent (usable-counts _ _ u) (r .loop .inv .0) (l .loop2 .inv .1), r .before .before .before .of-file .ensures)
 
-add-struck-2 : tie.Need-add-struck-2 Inv-loop2 μ-loop2 Inv-loop μ-loop
-add-struck-2 c =
-    let l = c .before .before .before .before .before in
+bits-requires-2 : tie.Need-bits-requires-2 Inv-loop2 μ-loop2 Inv-loop μ-loop
+bits-requires-2 c κs =
+    let a = c .before .before .before in
+    let l = a .before .before .before in
     let r = l .before in
-    let h = usable-counts _ _ (r .before .before .before .before .pre .0) in
-    omega (arith, round-few h (r .loop .inv) (l .loop2 .inv .1) (c .before .before .own-steps .ensures))
+    let h = usable-counts _ _ (r .before .before .before .before .before .before .pre .0) in
+    lent-short h _ (round-lent h (r .loop .inv .0) (l .loop2 .inv .1) (a .own-steps .ensures))
 
 -- ---- round after round
 
 add-n : tie.Need-add-n Inv-loop2 μ-loop2 Inv-loop μ-loop
 add-n c =
-    let r = c .before .before .before .before .before .before .before in
-    omega (arith, usable-counts _ _ (r .before .before .before .before .pre .0) .most-words, r .loop .inv .few)
+    let r = c .before .before .before .before .before .before .before .before .before in
+    omega (arith, usable-counts _ _ (r .before .before .before .before .before .before .pre .0) .most-words, r .loop .inv .0 .few)
 
 loop-less : tie.Need-loop-less Inv-loop2 μ-loop2 Inv-loop μ-loop
 loop-less c =
-    let a = c .before .before .before in
+    let b = c .before in
+    let a = b .before .before .before .before in
     let l = a .before .before .before in
     let r = l .before in
-    let h = usable-counts _ _ (r .before .before .before .before .pre .0) in
-    round-less h (r .loop .inv) (l .loop2 .inv .1) (a .own-steps .ensures) (omega arith) (c .if1 .left)
+    let h = usable-counts _ _ (r .before .before .before .before .before .before .pre .0) in
+    let after = b .bits2 .ensures in
+    let before = r .loop .inv .1 in
+    round-less h (r .loop .inv .0) (l .loop2 .inv .1) (a .own-steps .ensures) (omega arith) (λ e. c .if1 .left (omega arith))
 
 loop-again : tie.Need-loop-again Inv-loop2 μ-loop2 Inv-loop μ-loop
 loop-again c =
-    let a = c .before .before .before in
+    let b = c .before in
+    let a = b .before .before .before .before in
     let l = a .before .before .before in
     let r = l .before in
-    let h = usable-counts _ _ (r .before .before .before .before .pre .0) in
-    round-next h (r .loop .inv) (l .loop2 .inv .1) (a .own-steps .ensures) (omega arith) (c .if1 .left)
+    let h = usable-counts _ _ (r .before .before .before .before .before .before .pre .0) in
+    let after = b .bits2 .ensures in
+    let before = r .loop .inv .1 in
+    (round-next h (r .loop .inv .0) (l .loop2 .inv .1) (a .own-steps .ensures) (omega arith) (λ e. c .if1 .left (omega arith)), after)
 
 same-length : tie.Need-same-length Inv-loop2 μ-loop2 Inv-loop μ-loop
 same-length c =
-    let a = c .before .before .before in
+    let a = c .before .before .before .before .before in
     let l = a .before .before .before in
     let r = l .before in
-    let s = r .before .before .before .before in
-    let lent = round-lent (usable-counts _ _ (s .pre .0)) (r .loop .inv) (l .loop2 .inv .1) (a .own-steps .ensures) in
+    let s = r .before .before .before .before .before .before in
+    let lent = round-lent (usable-counts _ _ (s .pre .0)) (r .loop .inv .0) (l .loop2 .inv .1) (a .own-steps .ensures) in
     omega (arith, lendable-length _ _ lent, lendable-length _ _ (s .pre .1))
 
 returns : tie.Need-returns Inv-loop2 μ-loop2 Inv-loop μ-loop
 returns c =
-    let a = c .before .before .before in
+    let b = c .before in
+    let a = b .before .before .before .before in
     let l = a .before .before .before in
     let r = l .before in
-    let h = usable-counts _ _ (r .before .before .before .before .pre .0) in
-    round-last h (r .loop .inv) (l .loop2 .inv .1) (a .own-steps .ensures) (omega arith) (c .if1 .taken)
+    let h = usable-counts _ _ (r .before .before .before .before .before .before .pre .0) in
+    let after = b .bits2 .ensures in
+    let before = r .loop .inv .1 in
+    let same = c .if1 .taken in
+    round-last h (r .loop .inv .0) (l .loop2 .inv .1) (a .own-steps .ensures) (omega arith) (omega arith)
 
 pub settle-spec : {M : Type 1} → statement M
 settle-spec =
@@ -131,15 +139,15 @@ settle-spec =
     Inv-loop
     μ-loop
     of-file-requires
+    bits-requires
     loop-holds
     loop2-holds
-    trim-requires
-    add-struck
+    trim-row-requires
     add-x
     loop2-less
     loop2-again
     own-steps-requires
-    add-struck-2
+    bits-requires-2
     add-n
     loop-less
     loop-again

@@ -13,11 +13,11 @@ use Rattle.room.proofs.copy.Reads as copy-reads
 use Rattle.search.proofs.visit.Reads as visit-reads
 
 abbrev Inv-loop : tie.InvT-loop
-Inv-loop file p ix budget room₀ answer₀ m count₀ path₀ room answer count path =
+Inv-loop file p ix kinds budget room₀ answer₀ m count₀ path₀ room answer count path =
     (length room ≡ length room₀) × (answer ≡ answer₀) × Exploring file p budget room₀ answer₀ count path room
 
 abbrev μ-loop : tie.MeasureT-loop
-μ-loop file p ix budget room₀ answer₀ m count₀ path₀ room answer count path = budget - count
+μ-loop file p ix kinds budget room₀ answer₀ m count₀ path₀ room answer count path = budget - count
 
 -- src/lib.rt:124:13
 mul-m : tie.Need-mul-m Inv-loop μ-loop
@@ -29,7 +29,7 @@ add-m c = search needs
 
 -- src/lib.rt:131:5
 loop-holds : tie.Need-loop-holds Inv-loop μ-loop
-loop-holds c = (refl, refl, exploring-start _ _ _ _ _ (c .before .before .before .before .before .before .pre .5))
+loop-holds c = (refl, refl, exploring-start _ _ _ _ _ (c .before .before .before .before .before .before .before .pre .5))
 
 -- src/lib.rt:132:9
 add-count : tie.Need-add-count Inv-loop μ-loop
@@ -39,9 +39,9 @@ add-count c = search needs
 visit-requires : tie.Need-visit-requires Inv-loop μ-loop
 visit-requires c κs =
     let l = c .before .before in
-    let s = l .before .before .before .before .before .before .before in
+    let s = l .before .before .before .before .before .before .before .before in
     let x = l .loop .inv .2 in
-    (s .pre .0, search needs, s .pre .3, s .pre .4, (x .decisions, x .standing))
+    (s .pre .0, search needs, s .pre .3, s .pre .4, (x .decisions, x .standing), s .pre .6)
 
 -- src/lib.rt:135:28
 enum-told : tie.Need-enum-told Inv-loop μ-loop
@@ -59,7 +59,7 @@ slice-aggregate-copy c = sym (length-take-le _ _ (search needs))
 copy-requires : tie.Need-copy-requires Inv-loop μ-loop
 copy-requires c κs =
     let l = c .before .before .before .before .before .before .before .before .before in
-    let s = l .before .before .before .before .before .before .before in
+    let s = l .before .before .before .before .before .before .before .before in
     ap length (l .loop .inv .1) ∙ s .pre .2 ∙ sym (length-take-le _ _ (search needs))
 
 -- src/lib.rt:136:17
@@ -70,7 +70,7 @@ same-length c = search needs
 same-length-2 : tie.Need-same-length-2 Inv-loop μ-loop
 same-length-2 c =
     let l = c .before .before .before .before .before .before .before .before .before .before .before .before in
-    let s = l .before .before .before .before .before .before .before in
+    let s = l .before .before .before .before .before .before .before .before in
     ap length (c .before .before .copy .ensures) ∙ sym (slice-aggregate-copy (c .before .before .before .before)) ∙ sym (s .pre .2)
 
 -- src/lib.rt:136:17
@@ -92,7 +92,9 @@ same-length-3 c = search needs
 
 -- src/lib.rt:138:30
 same-length-4 : tie.Need-same-length-4 Inv-loop μ-loop
-same-length-4 c = search needs
+same-length-4 c =
+    let v = c .before .before .before .before in
+    ap length (v .before .before .before .loop .inv .1)
 
 -- src/lib.rt:138:30
 returns-2 : tie.Need-returns-2 Inv-loop μ-loop
@@ -130,7 +132,7 @@ same-length-6 c = search needs
 returns-3 : tie.Need-returns-3 Inv-loop μ-loop
 returns-3 c =
     let l = c .before .loop .inv in
-    let at = c .before .before .before .before .before .before .before in
+    let at = c .before .before .before .before .before .before .before .before in
     let s = at .before in
     let bytes : Bytes (s .args .file .now) = λ i. at .shared-slice-known .given i .fits in
     exploring-spent _ _ _ _ _ _ _ _ (l .2) bytes (s .pre .0) (c .loop-test .left) _ (l .1)

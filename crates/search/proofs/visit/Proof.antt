@@ -30,14 +30,14 @@ slice-relend-prefix-settle c = search needs
 
 -- src/lib.rt:101:28
 slice-aggregate-settle : tie.Need-slice-aggregate-settle
-slice-aggregate-settle c = sym (length-take-le _ _ (omega (arith, c .before .before .before .before .before .before .pre .1)))
+slice-aggregate-settle c = sym (length-take-le _ _ (omega (arith, c .before .before .before .before .before .before .before .pre .1)))
 
 -- src/lib.rt:101:8
 settle-requires : tie.Need-settle-requires
 settle-requires c κs =
-    let k = c .before .before .before .before .before in
+    let k = c .before .before .before .before .before .before in
     let s = k .before in
-    (s .pre .0, current-lendable (begun k), s .pre .2, s .pre .3, current-begun (begun k))
+    (s .pre .0, current-lendable (begun k), s .pre .2, s .pre .3, current-begun (begun k), s .pre .5)
 
 -- src/lib.rt:102:9
 go-down-requires : tie.Need-go-down-requires
@@ -53,17 +53,17 @@ returns c =
     let d = c .before .before in
     let t = d .before .before in
     let r = t .before .before .before in
-    let v = begun (r .before .before .before .before .before .before) in
+    let v = begun (r .before .before .before .before .before .before .before) in
     settled-down v _ _ (r .settle .ensures) _ _ (t .if1 .taken) (d .go-down .ensures)
 
 -- src/lib.rt:105:13
 slice-aggregate-go-back : tie.Need-slice-aggregate-go-back
-slice-aggregate-go-back c = usable-end _ _ (c .before .before .before .before .before .before .before .before .before .before .before .pre .0)
+slice-aggregate-go-back c = usable-end _ _ (c .before .before .before .before .before .before .before .before .before .before .before .before .pre .0)
 
 -- src/lib.rt:105:5
 go-back-requires : tie.Need-go-back-requires
 go-back-requires c κs =
-    let s = c .before .before .before .before .before .before .before .before .before .before .before .before in
+    let s = c .before .before .before .before .before .before .before .before .before .before .before .before .before in
     (usable-bytes _ _ (s .pre .0), search needs, s .pre .4 .1 .inside)
 
 -- src/lib.rt:95:1
@@ -76,7 +76,7 @@ returns-2 c =
     let d = c .before .before in
     let t = d .before .before .before in
     let r = t .before .before .before in
-    let v = begun (r .before .before .before .before .before .before) in
+    let v = begun (r .before .before .before .before .before .before .before) in
     settled-back v _ _ (r .settle .ensures) _ _ (t .if1 .left) (d .go-back .ensures)
 
 pub visit-spec : {M : Type 1} → statement M

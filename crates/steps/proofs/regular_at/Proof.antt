@@ -1,5 +1,4 @@
-use Rattle.laws.proofs.TableLaws.{words-of}
-use Rattle.steps.proofs.RegularTableLaws.{automaton-named, string-inside, machine-there, regular-puts, regular-steps}
+use Rattle.steps.proofs.RegularTableLaws.{automaton-named, machine-there, machine-alone, regular-at-narrows}
 use borrow.Author.Needs.{needs}
 use Rattle.steps.proofs.regular_at.Statement.{statement}
 use Rattle.steps.proofs.regular_at.Tie as tie
@@ -7,8 +6,7 @@ use Rattle.steps.proofs.regular_at.Reads as reads
 use Rattle.steps.proofs.regular_at.Lts as lts
 use Rattle.automata.proofs.start.Reads as start-reads
 use Rattle.regular.proofs.narrow.Reads as narrow-reads
-use Rattle.rows.proofs.load.Reads as load-reads
-use Rattle.steps.proofs.put.Reads as put-reads
+use Rattle.automata.proofs.separate.Reads as separate-reads
 
 sub-start : tie.Need-sub-start
 sub-start c = search needs
@@ -20,13 +18,15 @@ part-start-end : tie.Need-part-start-end
 part-start-end c = search needs
 
 start-requires : tie.Need-start-requires
-start-requires c κs = automaton-named _ _ (c .before .before .before .args .table .now) _ _ (c .before .before .before .pre)
+start-requires c κs =
+    let s = c .before .before .before .before in
+    automaton-named _ _ _ (s .args .table .now) _ _ (s .pre)
 
 add-at : tie.Need-add-at
 add-at c = search needs
 
-load-requires : tie.Need-load-requires
-load-requires c κs = string-inside _ _ _ _ _ (c .before .before .before .before .before .pre)
+separate-requires : tie.Need-separate-requires
+separate-requires c κs = search needs
 
 sub-narrow : tie.Need-sub-narrow
 sub-narrow c = search needs
@@ -37,28 +37,49 @@ part-narrow-start c = search needs
 part-narrow-end : tie.Need-part-narrow-end
 part-narrow-end c = search needs
 
+slice-aggregate-narrow : tie.Need-slice-aggregate-narrow
+slice-aggregate-narrow c = search needs
+
 narrow-requires : tie.Need-narrow-requires
 narrow-requires c κs =
-    let loaded = c .before .before in
-    let found = loaded .before .before in
-    machine-there _ _ _ _ _ (found .before .before .before .before .pre) _ (found .start .ensures) _ (loaded .load .ensures)
-
-put-requires : tie.Need-put-requires
-put-requires c κs =
-    let loaded = c .before .before .before in
-    let found = loaded .before .before in
-    regular-puts _ _ _ _ _ (found .before .before .before .before .pre) _ (found .start .ensures) _ (loaded .load .ensures) _ (c .narrow .ensures)
+    let own = c .before .before .before in
+    let found = own .before .before in
+    machine-alone _ _ _ _ _ _ (found .before .before .before .before .before .pre) _ (found .start .ensures) _ (own .separate .ensures)
 
 same-length : tie.Need-same-length
 same-length c = search needs
 
 returns : tie.Need-returns
 returns c =
-    let loaded = c .before .before .before .before .before .before in
-    let found = loaded .before .before in
-    let known = found .before .before in
-    regular-steps _ _ _ _ _ (known .before .before .pre) _ (found .start .ensures) _ (loaded .load .ensures) _ (c .before .before .before .narrow .ensures) _ _
-    (words-of (known .before .before .args .table .now) (λ i. known .slice-known .given i .fits)) (c .before .before .put .ensures)
+    let n = c .before .before in
+    let found = n .before .before .before .before .before .before in
+    regular-at-narrows _ _ _ _ _ _ (found .before .before .before .before .before .pre) _ (found .start .ensures) _ _ (n .narrow .ensures)
+
+sub-narrow-2 : tie.Need-sub-narrow-2
+sub-narrow-2 c = search needs
+
+part-narrow-start-2 : tie.Need-part-narrow-start-2
+part-narrow-start-2 c = search needs
+
+part-narrow-end-2 : tie.Need-part-narrow-end-2
+part-narrow-end-2 c = search needs
+
+mul-narrow : tie.Need-mul-narrow
+mul-narrow c = search needs
+
+narrow-requires-2 : tie.Need-narrow-requires-2
+narrow-requires-2 c κs =
+    let found = c .before .before .before in
+    machine-there _ _ _ _ _ _ (found .before .before .before .before .before .pre) _ (found .start .ensures) (c .before .before .if1 .left)
+
+same-length-2 : tie.Need-same-length-2
+same-length-2 c = search needs
+
+returns-2 : tie.Need-returns-2
+returns-2 c =
+    let n = c .before .before in
+    let found = n .before .before .before .before in
+    regular-at-narrows _ _ _ _ _ _ (found .before .before .before .before .before .pre) _ (found .start .ensures) _ _ (n .narrow2 .ensures)
 
 pub regular-at-spec : {M : Type 1} → statement M
 regular-at-spec =
@@ -69,11 +90,18 @@ regular-at-spec =
     part-start-end
     start-requires
     add-at
-    load-requires
+    separate-requires
     sub-narrow
     part-narrow-start
     part-narrow-end
+    slice-aggregate-narrow
     narrow-requires
-    put-requires
     same-length
-    returns)
+    returns
+    sub-narrow-2
+    part-narrow-start-2
+    part-narrow-end-2
+    mul-narrow
+    narrow-requires-2
+    same-length-2
+    returns-2)

@@ -1,103 +1,171 @@
-use mathlib.Core.Path.{_≡_}
-use mathlib.Core.Logic.{inl, inr}
-use mir.Val.{Fits}
-use mir.Syntax.{w64}
-use Rattle.model.specs.Words.{word}
-use Rattle.words.specs.Ends.{Highest, Lowest}
-use Rattle.rows.specs.Rows.{trimmed}
-use Rattle.rows.proofs.Fill.{array-words}
-use Rattle.laws.specs.Supported.{OfKinds}
-use Rattle.laws.proofs.WordLaws.{bit-high}
-use Rattle.sub.specs.Substrings.{Longest, PartAt, Supported}
-use Rattle.sub.proofs.TidyLaws.{trimmed-longest}
-use Rattle.sub.proofs.SubLaws.{sub-none, sub-narrowed}
+use mathlib.Core.Path.{refl}
+use Rattle.laws.proofs.TableLaws.{words-of}
+use Rattle.inplace.proofs.Parts.{tidy-lengths}
+use Rattle.sub.proofs.NarrowLaws.{step-room, step-none, step-left, step-replacing, step-done}
 use borrow.Author.Needs.{needs}
 use Rattle.sub.proofs.narrow.Statement.{statement}
 use Rattle.sub.proofs.narrow.Tie as tie
 use Rattle.sub.proofs.narrow.Reads as reads
 use Rattle.sub.proofs.narrow.Lts as lts
-use Rattle.rows.proofs.trim.Reads as trim-reads
-use Rattle.sub.proofs.nothing.Reads as nothing-reads
+use Rattle.inplace.proofs.nothing.Reads as nothing-reads
+use Rattle.inplace.proofs.put.Reads as put-reads
+use Rattle.inplace.proofs.replace.Reads as replace-reads
 use Rattle.sub.proofs.starts.Reads as starts-reads
+use Rattle.sub.proofs.wholes.Reads as wholes-reads
 use Rattle.words.proofs.highest.Reads as highest-reads
 use Rattle.words.proofs.lowest.Reads as lowest-reads
 
-trim-requires : tie.Need-trim-requires
-trim-requires c κs = search needs
+mul-lowest : tie.Need-mul-lowest
+mul-lowest c = search needs
 
-array-read-if1 : tie.Need-array-read-if1
-array-read-if1 c = search needs
+mul-lowest-2 : tie.Need-mul-lowest-2
+mul-lowest-2 c = search needs
+
+slice-read-lowest : tie.Need-slice-read-lowest
+slice-read-lowest c = search needs
+
+lowest-requires : tie.Need-lowest-requires
+lowest-requires c κs = tidy-lengths _ _ (c .before .before .pre .5)
+
+mul-highest : tie.Need-mul-highest
+mul-highest c = search needs
+
+mul-highest-2 : tie.Need-mul-highest-2
+mul-highest-2 c = search needs
+
+slice-read-highest : tie.Need-slice-read-highest
+slice-read-highest c = search needs
+
+highest-requires : tie.Need-highest-requires
+highest-requires c κs = tidy-lengths _ _ (c .before .before .before .before .pre .5)
+
+mul-highest-3 : tie.Need-mul-highest-3
+mul-highest-3 c = search needs
+
+mul-highest-4 : tie.Need-mul-highest-4
+mul-highest-4 c = search needs
+
+slice-read-highest-2 : tie.Need-slice-read-highest-2
+slice-read-highest-2 c = search needs
+
+highest-requires-2 : tie.Need-highest-requires-2
+highest-requires-2 c κs = tidy-lengths _ _ (c .before .before .before .before .before .before .pre .4)
+
+mul-old : tie.Need-mul-old
+mul-old c = search needs
+
+slice-read-old : tie.Need-slice-read-old
+slice-read-old c = search needs
+
+starts-requires : tie.Need-starts-requires
+starts-requires c κs =
+    let r = c in
+    let h2 = r .before .before .before in
+    let h = h2 .before .before in
+    let l = h .before .before in
+    let k = l .before .before in
+    let s = k .before in
+    let words = words-of (s .args .t .now) (λ j. k .slice-known .given j .fits) in (
+      step-room (s .args .t .now) words _ _ _ (s .pre .0) (s .pre .1) (s .pre .2) (s .pre .3) (s .pre .4) (s .pre .5) _ _ _ (l .lowest .ensures)
+          (h .highest .ensures) (h2 .highest2 .ensures),
+      refl,
+    )
 
 nothing-requires : tie.Need-nothing-requires
 nothing-requires c κs = search needs
 
+same-length : tie.Need-same-length
+same-length c = search needs
+
 returns : tie.Need-returns
 returns c =
-    let x = c .before .before .before .args .x in
-    let y = c .before .before .before .args .t2 in
-    let n = c .before .before .before .args .n in
-    let fits : Fits w64 n = search needs in
-    let z = c .nothing .ensures in
-    let empty : word (trimmed x) 0 ≡ 0 = rw (← c .before .before .trim .ensures) (c .before .if1 .taken) in
-    sub-none x y n (search needs) (search needs) (array-words x (λ i. search needs)) (array-words y (λ i. search needs)) (λ b e. bit-high n 64 b (fits .fits) e) (inl empty) _ _ _ (z .0) (z .1) (z .2)
+    let r = c .before .before .before in
+    let h2 = r .before .before .before in
+    let h = h2 .before .before in
+    let l = h .before .before in
+    let k = l .before .before in
+    let s = k .before in
+    let words = words-of (s .args .t .now) (λ j. k .slice-known .given j .fits) in
+    step-none (s .args .t .now) words _ _ _ (s .pre .0) (s .pre .1) (s .pre .2) (s .pre .3) (s .pre .4) (s .pre .5) _ _ _ (l .lowest .ensures)
+    (h .highest .ensures) (h2 .highest2 .ensures) _ _ (c .before .before .starts .ensures) (c .before .if1 .taken) _ (c .nothing .ensures)
 
-array-read-if2 : tie.Need-array-read-if2
-array-read-if2 c = search needs
+wholes-requires : tie.Need-wholes-requires
+wholes-requires c κs =
+    let r = c .before .before .before in
+    let h2 = r .before .before .before in
+    let h = h2 .before .before in
+    let l = h .before .before in
+    let k = l .before .before in
+    let s = k .before in
+    let words = words-of (s .args .t .now) (λ j. k .slice-known .given j .fits) in
+    step-left (s .args .t .now) words _ _ _ (s .pre .0) (s .pre .1) (s .pre .2) (s .pre .3) (s .pre .4) (s .pre .5) _ _ _ (l .lowest .ensures)
+    (h .highest .ensures) (h2 .highest2 .ensures) _ _ (c .before .before .starts .ensures) (c .before .if1 .left)
 
-nothing-requires-2 : tie.Need-nothing-requires-2
-nothing-requires-2 c κs = search needs
+slice-aggregate-replace : tie.Need-slice-aggregate-replace
+slice-aggregate-replace c = search needs
+
+replace-requires : tie.Need-replace-requires
+replace-requires c κs =
+    let w = c .before .before .before .before in
+    let e = w .before .before in
+    let r = e .before .before in
+    let h2 = r .before .before .before in
+    let h = h2 .before .before in
+    let l = h .before .before in
+    let k = l .before .before in
+    let s = k .before in
+    let words = words-of (s .args .t .now) (λ j. k .slice-known .given j .fits) in
+    step-replacing (s .args .t .now) words _ _ _ (s .pre .0) (s .pre .1) (s .pre .2) (s .pre .3) (s .pre .4) (s .pre .5) _ _ _ (l .lowest .ensures)
+    (h .highest .ensures) (h2 .highest2 .ensures) _ _ (e .before .starts .ensures) (e .if1 .left) _ _ (w .wholes .ensures)
+
+put-requires : tie.Need-put-requires
+put-requires c κs = search needs
+
+same-length-2 : tie.Need-same-length-2
+same-length-2 c = search needs
 
 returns-2 : tie.Need-returns-2
 returns-2 c =
-    let x = c .before .before .before .before .args .x in
-    let y = c .before .before .before .before .args .t2 in
-    let n = c .before .before .before .before .args .n in
-    let fits : Fits w64 n = search needs in
-    let z = c .nothing2 .ensures in
-    sub-none x y n (search needs) (search needs) (array-words x (λ i. search needs)) (array-words y (λ i. search needs)) (λ b e. bit-high n 64 b (fits .fits) e) (inr (c .before .if2 .taken)) _ _ _ (z .0) (z .1) (z .2)
-
-array-read-lowest : tie.Need-array-read-lowest
-array-read-lowest c = search needs
-
-lowest-requires : tie.Need-lowest-requires
-lowest-requires c κs = search needs
-
-array-read-highest : tie.Need-array-read-highest
-array-read-highest c = search needs
-
-highest-requires : tie.Need-highest-requires
-highest-requires c κs = search needs
-
-starts-requires : tie.Need-starts-requires
-starts-requires c κs = search needs
-
-returns-3 : tie.Need-returns-3
-returns-3 c =
-    let x = c .before .before .before .before .before .before .args .x in
-    let y = c .before .before .before .before .before .before .args .t2 in
-    let n = c .before .before .before .before .before .before .args .n in
-    let fits : Fits w64 n = search needs in
-    let trim = c .before .before .before .before .before .trim in
-    let high : Highest (word (trimmed x) 0) (c .before .highest .result) = rw (← trim .ensures) (c .before .highest .ensures) in
-    let longest = trimmed-longest x (search needs) (array-words x (λ i. search needs)) (c .before .highest .result) high in
-    let met : Longest (trimmed x) (c .before .highest .result) → Lowest (word y 0) (c .before .before .lowest .result)
-    → Supported (OfKinds (PartAt (trimmed x) y n) 63) (c .starts .result .x) (c .starts .result .y) (c .starts .result .n) = rw (← trim .ensures) (c .starts .ensures) in
-    sub-narrowed x y n (search needs) (search needs) (array-words x (λ i. search needs)) (array-words y (λ i. search needs)) (λ b e. bit-high n 64 b (fits .fits) e) _ _ _ (met longest (c .before .before .lowest .ensures))
+    let u = c .before .before in
+    let v = u .before .before .before .before in
+    let w = v .before .before .before .before .before in
+    let e = w .before .before in
+    let r = e .before .before in
+    let h2 = r .before .before .before in
+    let h = h2 .before .before in
+    let l = h .before .before in
+    let k = l .before .before in
+    let s = k .before in
+    let words = words-of (s .args .t .now) (λ j. k .slice-known .given j .fits) in
+    step-done (s .args .t .now) words _ _ _ (s .pre .0) (s .pre .1) (s .pre .2) (s .pre .3) (s .pre .4) (s .pre .5) _ _ _ (l .lowest .ensures)
+    (h .highest .ensures) (h2 .highest2 .ensures) _ _ (e .before .starts .ensures) (e .if1 .left) _ _ (w .wholes .ensures) _ _ (v .replace .ensures) _ _
+    (u .put .ensures)
 
 pub narrow-spec : {M : Type 1} → statement M
 narrow-spec =
     tie.close
     (tie.spec
-    trim-requires
-    array-read-if1
-    nothing-requires
-    returns
-    array-read-if2
-    nothing-requires-2
-    returns-2
-    array-read-lowest
+    mul-lowest
+    mul-lowest-2
+    slice-read-lowest
     lowest-requires
-    array-read-highest
+    mul-highest
+    mul-highest-2
+    slice-read-highest
     highest-requires
+    mul-highest-3
+    mul-highest-4
+    slice-read-highest-2
+    highest-requires-2
+    mul-old
+    slice-read-old
     starts-requires
-    returns-3)
+    nothing-requires
+    same-length
+    returns
+    wholes-requires
+    slice-aggregate-replace
+    replace-requires
+    put-requires
+    same-length-2
+    returns-2)

@@ -1,69 +1,58 @@
-use Prim.Native.Nat.{_-_, _≤_}
-use mathlib.Core.Path.{_≡_, sym, _∙_}
-use mathlib.Core.Logic.{⊎-elim}
-use native.Mathlib.Numerals.{add-one}
+use mir.Val.{Fits}
+use mir.Syntax.{w64}
+use Rattle.laws.proofs.WordLaws.{bit-high}
 use native.Mathlib.Omega.{arith}
-use Rattle.model.specs.Words.{word}
-use Rattle.laws.specs.Supported.{OfKinds}
-use Rattle.words.specs.Ends.{Lowest}
-use Rattle.sub.specs.Substrings.{PartAt, Longest, Supported}
-use Rattle.sub.proofs.SubLaws.{starts-none, starts-next, starts-skip}
-use Rattle.sub.proofs.StartLaws.{start-barred}
+use mathlib.Core.Path.{_≡_}
+use Rattle.model.specs.Domains.{row}
+use Rattle.sub.specs.Substrings.{Started}
+use Rattle.sub.proofs.Turns.{rest-less}
+use Rattle.sub.proofs.Steps.{starts-begun, starts-turn}
 use borrow.Author.Needs.{needs}
 use Rattle.sub.proofs.starts.Statement.{statement}
 use Rattle.sub.proofs.starts.Tie as tie
 use Rattle.sub.proofs.starts.Reads as reads
 use Rattle.sub.proofs.starts.Lts as lts
-use Rattle.sub.proofs.nothing.Reads as nothing-reads
-use Rattle.sub.proofs.part_at.Reads as part-at-reads
-use Rattle.sub.proofs.union.Reads as union-reads
-use Rattle.words.proofs.has.Reads as has-reads
+use Rattle.sub.proofs.at_start.Reads as at-start-reads
+use Rattle.words.proofs.lowest.Reads as lowest-reads
+use Rattle.words.proofs.singleton.Reads as singleton-reads
 
 abbrev Inv-loop : tie.InvT-loop
-Inv-loop x y n least top r₀ off₀ r off = (off ≤ 63) × (Longest x top → Lowest (word y 0) least → Supported (OfKinds (PartAt x y n) off) (r .x) (r .y) (r .n))
+Inv-loop t x y n least most longest r₀ rest₀ found₀ r rest found = Started (row t x) (row t y) n least longest rest found r
 
 abbrev μ-loop : tie.MeasureT-loop
-μ-loop x y n least top r₀ off₀ r off = 63 - off
-
-nothing-requires : tie.Need-nothing-requires Inv-loop μ-loop
-nothing-requires c κs = search needs
+μ-loop t x y n least most longest r₀ rest₀ found₀ r rest found = rest
 
 loop-holds : tie.Need-loop-holds Inv-loop μ-loop
-loop-holds c = let z = c .nothing .ensures in (search needs, λ longest low. starts-none _ _ _ _ _ _ (z .0) (z .1) (z .2))
+loop-holds c = starts-begun _ _ _ _ _ _ (c .before .pre .1)
 
-add-has : tie.Need-add-has Inv-loop μ-loop
-add-has c = search needs
+lowest-requires : tie.Need-lowest-requires Inv-loop μ-loop
+lowest-requires c κs = search needs
 
-has-requires : tie.Need-has-requires Inv-loop μ-loop
-has-requires c κs = search needs
+at-start-requires : tie.Need-at-start-requires Inv-loop μ-loop
+at-start-requires c κs =
+    let l = c .before .before .before in
+    let s = l .before .before in
+    let fits : Fits w64 (s .args .n) = search needs in
+    let k = bit-high (s .args .n) 64 _ (fits .fits) (l .loop .inv .coming _ (c .before .lowest .ensures .here)) in
+    (l .loop .inv .parts .count, omega arith, s .pre .0)
 
-part-at-requires : tie.Need-part-at-requires Inv-loop μ-loop
-part-at-requires c κs = (search needs, search needs, search needs, rw add-one at (sym (c .before .has .ensures) ∙ c .if1 .taken))
+singleton-requires : tie.Need-singleton-requires Inv-loop μ-loop
+singleton-requires c κs = search needs
 
-union-requires : tie.Need-union-requires Inv-loop μ-loop
-union-requires c κs = search needs
-
-add-off : tie.Need-add-off Inv-loop μ-loop
-add-off c = search needs
+sub-rest : tie.Need-sub-rest Inv-loop μ-loop
+sub-rest c = rest-less _ _ _ (c .before .before .before .lowest .ensures) (c .singleton .ensures) .0
 
 loop-less : tie.Need-loop-less Inv-loop μ-loop
-loop-less c = search needs
+loop-less c = rest-less _ _ _ (c .before .before .before .lowest .ensures) (c .singleton .ensures) .1
 
 loop-again : tie.Need-loop-again Inv-loop μ-loop
 loop-again c =
-    let l = c .before .before .before .loop in
-    let h = c .before .has .ensures in (
-      search needs,
-      λ longest low. rw add-one (⊎-elim
-          (λ w. let u = w .2 .ensures in rw (w .3, u .0, u .1, u .2) (starts-next _ _ _ _ _ _ _ _ _ _ (w .1 .ensures longest low) (l .inv .1 longest low)))
-          (λ w. rw (w .1) (starts-skip _ _ _ _ (start-barred _ _ _ _ (rw add-one at (sym h ∙ w .0 .left))) _ _ _ (l .inv .1 longest low)))
-          (c .if1 .came)),
-    )
+    let a = c .before in
+    let l = a .before .before in
+    starts-turn _ _ _ _ _ _ _ _ (l .before .before .loop .inv) _ _ (l .lowest .ensures) (c .singleton .ensures) _ _ (a .at-start .ensures)
 
 returns : tie.Need-returns Inv-loop μ-loop
-returns c longest low =
-    let e : c .before .loop .off ≡ 63 = omega arith in
-    rw e at (c .before .loop .inv .1 longest low)
+returns c = let e : c .before .loop .rest ≡ 0 = omega arith in rw e at (c .before .loop .inv)
 
 pub starts-spec : {M : Type 1} → statement M
 starts-spec =
@@ -71,13 +60,11 @@ starts-spec =
     (tie.spec
     Inv-loop
     μ-loop
-    nothing-requires
     loop-holds
-    add-has
-    has-requires
-    part-at-requires
-    union-requires
-    add-off
+    lowest-requires
+    at-start-requires
+    singleton-requires
+    sub-rest
     loop-less
     loop-again
     returns)

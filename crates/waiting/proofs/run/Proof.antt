@@ -1,8 +1,9 @@
+use mathlib.Core.Path.{_∙_}
 use native.Mathlib.Omega.{arith}
 use Prim.Native.Nat.{_<_}
 use Rattle.format.specs.Accepting.{problemIn}
 use Rattle.waiting.proofs.RunLaws.{Went, load, went-start}
-use Rattle.waiting.proofs.TakingLaws.{went-length, taking-bit, taking-inside, taking-quiet, taking-woken, taking-dead, taking-dead-length, taking-done}
+use Rattle.waiting.proofs.TakingLaws.{taking-bit, taking-inside, taking-quiet, taking-woken, taking-dead, taking-done}
 use borrow.Author.Needs.{needs}
 use Rattle.waiting.proofs.run.Statement.{statement}
 use Rattle.waiting.proofs.run.Tie as tie
@@ -13,15 +14,15 @@ use Rattle.waiting.proofs.step.Reads as step-reads
 use Rattle.words.proofs.singleton.Reads as singleton-reads
 
 abbrev Inv-loop : tie.InvT-loop
-Inv-loop file p ix start table₀ pending₀ j₀ table pending j = Went (problemIn file p) table₀ start table pending × (j < 64)
+Inv-loop file p ix kinds start table₀ pending₀ j₀ table pending j = Went (problemIn file p) table₀ start table pending × (j < 64)
 
 abbrev μ-loop : tie.MeasureT-loop
-μ-loop file p ix start table₀ pending₀ j₀ table pending j = load table pending
+μ-loop file p ix kinds start table₀ pending₀ j₀ table pending j = load table pending
 
 loop-holds : tie.Need-loop-holds Inv-loop μ-loop
 loop-holds c =
-    let s = c .before .before .before in
-    (went-start _ _ _ (s .pre .1) (s .pre .4), search needs)
+    let s = c .before .before .before .before in
+    (went-start _ _ _ (s .pre .1) (s .pre .5) (s .pre .4), search needs)
 
 next-requires : tie.Need-next-requires Inv-loop μ-loop
 next-requires c κs = search needs
@@ -32,15 +33,15 @@ singleton-requires c κs = search needs
 sub-pending : tie.Need-sub-pending Inv-loop μ-loop
 sub-pending c =
     let l = c .before .before .before in
-    let s = l .before .before .before .before in
+    let s = l .before .before .before .before .before in
     taking-bit _ _ (s .pre .0) (l .loop .inv .0) _ _ (c .before .next .ensures .0) (c .singleton .ensures)
 
 step-requires : tie.Need-step-requires Inv-loop μ-loop
 step-requires c κs =
     let t = c .before in
     let l = t .before .before .before in
-    let s = l .before .before .before .before in
-    (s .pre .0, l .loop .inv .0 .lent, s .pre .2, s .pre .3, taking-inside _ _ (s .pre .0) (l .loop .inv .0) _ _ (t .before .next .ensures .0) (t .singleton .ensures))
+    let s = l .before .before .before .before .before in
+    (s .pre .0, l .loop .inv .0 .lent, s .pre .2, s .pre .3, taking-inside _ _ (s .pre .0) (l .loop .inv .0) _ _ (t .before .next .ensures .0) (t .singleton .ensures), l .loop .inv .0 .tidy, s .pre .6)
 
 enum-told : tie.Need-enum-told Inv-loop μ-loop
 enum-told c = search needs
@@ -50,7 +51,7 @@ loop-less c =
     let r = c .before .before .before .before in
     let t = r .before .before in
     let l = t .before .before .before in
-    let at = l .before .before .before in
+    let at = l .before .before .before .before in
     let s = at .before in
     taking-quiet _ _ (s .pre .0) (l .loop .inv .0) _ _ (t .before .next .ensures .0) (t .singleton .ensures) (λ i. at .shared-slice-known .given i .fits) (r .step .ensures)
     (c .enum-told .given .1) .1
@@ -60,7 +61,7 @@ loop-again c =
     let r = c .before .before .before .before in
     let t = r .before .before in
     let l = t .before .before .before in
-    let at = l .before .before .before in
+    let at = l .before .before .before .before in
     let s = at .before in (
       taking-quiet _ _ (s .pre .0) (l .loop .inv .0) _ _ (t .before .next .ensures .0) (t .singleton .ensures) (λ i. at .shared-slice-known .given i .fits) (r .step .ensures)
           (c .enum-told .given .1) .0,
@@ -75,7 +76,7 @@ loop-less-2 c =
     let r = c .before .before .before .before .before in
     let t = r .before .before in
     let l = t .before .before .before in
-    let at = l .before .before .before in
+    let at = l .before .before .before .before in
     let s = at .before in
     taking-woken _ _ (s .pre .0) (l .loop .inv .0) _ _ (t .before .next .ensures .0) (t .singleton .ensures) (λ i. at .shared-slice-known .given i .fits) (r .step .ensures)
     (c .before .more .given .1) .1
@@ -85,7 +86,7 @@ loop-again-2 c =
     let r = c .before .before .before .before .before in
     let t = r .before .before in
     let l = t .before .before .before in
-    let at = l .before .before .before in
+    let at = l .before .before .before .before in
     let s = at .before in (
       taking-woken _ _ (s .pre .0) (l .loop .inv .0) _ _ (t .before .next .ensures .0) (t .singleton .ensures) (λ i. at .shared-slice-known .given i .fits) (r .step .ensures)
           (c .before .more .given .1) .0,
@@ -100,31 +101,25 @@ same-length c =
     let r = c .before .before .before .before in
     let t = r .before .before in
     let l = t .before .before .before in
-    let at = l .before .before .before in
-    let s = at .before in
-    taking-dead-length _ _ (s .pre .0) (l .loop .inv .0) _ _ (t .before .next .ensures .0) (t .singleton .ensures) (λ i. at .shared-slice-known .given i .fits) (r .step .ensures)
-    (s .pre .1) (c .enum-told2 .given .1)
+    r .step .ensures .same-length ∙ l .loop .inv .0 .same-length
 
 returns : tie.Need-returns Inv-loop μ-loop
 returns c =
     let r = c .before .before .before .before in
     let t = r .before .before in
     let l = t .before .before .before in
-    let at = l .before .before .before in
+    let at = l .before .before .before .before in
     let s = at .before in
     taking-dead _ _ (s .pre .0) (l .loop .inv .0) _ _ (t .before .next .ensures .0) (t .singleton .ensures) (λ i. at .shared-slice-known .given i .fits) (r .step .ensures)
     (c .enum-told2 .given .1)
 
 same-length-2 : tie.Need-same-length-2 Inv-loop μ-loop
-same-length-2 c =
-    let l = c .before in
-    let s = l .before .before .before .before in
-    went-length _ _ (s .pre .0) (l .loop .inv .0) (s .pre .1)
+same-length-2 c = c .before .loop .inv .0 .same-length
 
 returns-2 : tie.Need-returns-2 Inv-loop μ-loop
 returns-2 c =
     let l = c .before in
-    let at = l .before .before .before in
+    let at = l .before .before .before .before in
     let s = at .before in
     taking-done _ _ (s .pre .0) (l .loop .inv .0) (λ i. at .shared-slice-known .given i .fits) (omega arith)
 

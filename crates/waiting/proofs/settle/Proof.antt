@@ -1,67 +1,122 @@
 use borrow.Author.Tests.{not-true, not-false}
 use Rattle.laws.proofs.TableLaws.{words-of}
-use Rattle.waiting.proofs.SettleLaws.{begin-asks, run-asks, settle-strings, settle-dead, settle-done}
+use Rattle.waiting.proofs.SettleLaws.{ready-asks, settle-unready, lengths-asks, waiting-asks, settle-empty, run-asks, settle-strings, settle-dead, settle-done}
 use borrow.Author.Needs.{needs}
 use Rattle.waiting.proofs.settle.Statement.{statement}
 use Rattle.waiting.proofs.settle.Tie as tie
 use Rattle.waiting.proofs.settle.Reads as reads
 use Rattle.waiting.proofs.settle.Lts as lts
 use Rattle.rounds.proofs.every_value.Reads as every-value-reads
-use Rattle.waiting.proofs.begin.Reads as begin-reads
+use Rattle.waiting.proofs.first_waiting.Reads as first-waiting-reads
+use Rattle.waiting.proofs.has_lengths.Reads as has-lengths-reads
+use Rattle.waiting.proofs.ready.Reads as ready-reads
 use Rattle.waiting.proofs.run.Reads as run-reads
 
-begin-requires : tie.Need-begin-requires
-begin-requires c κs = begin-asks _ _ _ _ _ (c .before .before .before .before .pre)
-
-run-requires : tie.Need-run-requires
-run-requires c κs =
-    let b = c .before .before .before in
-    let k = b .before .before in
-    let s = k .before .before .before in
-    run-asks _ _ _ _ _ (s .pre) (λ i. k .before .before .shared-slice-known .given i .fits) (words-of (s .args .table .now) (λ i. k .slice-known .given i .fits)) (b .begin .ensures)
+ready-requires : tie.Need-ready-requires
+ready-requires c κs =
+    let k = c .before in
+    let s = k .before .before .before .before in
+    ready-asks _ _ _ _ _ (λ i. k .before .before .before .shared-slice-known .given i .fits) (words-of (s .args .table .now) (λ i. k .slice-known .given i .fits)) (s .pre .0, s .pre .1, s .pre .2, s .pre .3, s .pre .4)
 
 same-length : tie.Need-same-length
 same-length c = search needs
 
 returns : tie.Need-returns
 returns c =
-    let r = c .before .before .before in
-    let b = r .before .before .before .before in
-    let k = b .before .before in
-    let s = k .before .before .before in
-    settle-dead _ _ _ _ _ (s .pre) (λ i. k .before .before .shared-slice-known .given i .fits) (words-of (s .args .table .now) (λ i. k .slice-known .given i .fits)) (b .begin .ensures)
-    (r .run .ensures) (not-true _ (c .if1 .taken))
+    let y = c .before .before .before in
+    let k = y .before .before in
+    let s = k .before .before .before .before in
+    settle-unready _ _ _ _ _ (λ i. k .before .before .before .shared-slice-known .given i .fits) (words-of (s .args .table .now) (λ i. k .slice-known .given i .fits)) (s .pre .0, s .pre .1, s .pre .2, s .pre .3, s .pre .4) (y .ready .ensures) (not-true _ (c .if1 .taken))
 
-every-value-requires : tie.Need-every-value-requires
-every-value-requires c κs =
-    let r = c .before .before .before .before in
-    let b = r .before .before .before .before in
-    let k = b .before .before in
-    let s = k .before .before .before in
-    settle-strings _ _ _ _ _ (s .pre) (λ i. k .before .before .shared-slice-known .given i .fits) (words-of (s .args .table .now) (λ i. k .slice-known .given i .fits)) (b .begin .ensures)
-    (r .run .ensures)
+first-waiting-requires : tie.Need-first-waiting-requires
+first-waiting-requires c κs =
+    let y = c .before .before .before in
+    let k = y .before .before in
+    let s = k .before .before .before .before in
+    waiting-asks _ _ _ _ _ (λ i. k .before .before .before .shared-slice-known .given i .fits) (words-of (s .args .table .now) (λ i. k .slice-known .given i .fits)) (s .pre .0, s .pre .1, s .pre .2, s .pre .3, s .pre .4) (y .ready .ensures)
+
+has-lengths-requires : tie.Need-has-lengths-requires
+has-lengths-requires c κs =
+    let y = c .before .before .before .before .before in
+    let k = y .before .before in
+    let s = k .before .before .before .before in
+    lengths-asks _ _ _ _ _ (λ i. k .before .before .before .shared-slice-known .given i .fits) (words-of (s .args .table .now) (λ i. k .slice-known .given i .fits)) (s .pre .0, s .pre .1, s .pre .2, s .pre .3, s .pre .4) (y .ready .ensures)
 
 same-length-2 : tie.Need-same-length-2
 same-length-2 c = search needs
 
 returns-2 : tie.Need-returns-2
 returns-2 c =
-    let e = c .before .before in
-    let r = e .before .before .before in
-    let b = r .before .before .before .before in
-    let k = b .before .before in
-    let s = k .before .before .before in
-    settle-done _ _ _ _ _ (s .pre) (λ i. k .before .before .shared-slice-known .given i .fits) (words-of (s .args .table .now) (λ i. k .slice-known .given i .fits)) (b .begin .ensures)
-    (r .run .ensures) (not-false _ (e .if1 .left)) (c .every-value .ensures)
+    let l = c .before in
+    let w = l .before .before in
+    let e = w .before in
+    let y = e .before .before .before in
+    let k = y .before .before in
+    let s = k .before .before .before .before in
+    settle-empty _ _ _ _ _ (λ i. k .before .before .before .shared-slice-known .given i .fits) (words-of (s .args .table .now) (λ i. k .slice-known .given i .fits)) (s .pre .0, s .pre .1, s .pre .2, s .pre .3, s .pre .4) (y .ready .ensures) (not-false _ (e .if1 .left)) (w .first-waiting .ensures) (l .has-lengths .ensures) (not-true _ (c .if2 .taken))
+
+run-requires : tie.Need-run-requires
+run-requires c κs =
+    let d = c .before in
+    let l = d .before in
+    let w = l .before .before in
+    let e = w .before in
+    let y = e .before .before .before in
+    let k = y .before .before in
+    let s = k .before .before .before .before in
+    run-asks _ _ _ _ _ (λ i. k .before .before .before .shared-slice-known .given i .fits) (words-of (s .args .table .now) (λ i. k .slice-known .given i .fits)) (s .pre .0, s .pre .1, s .pre .2, s .pre .3, s .pre .4) (y .ready .ensures) (not-false _ (e .if1 .left)) (w .first-waiting .ensures) (l .has-lengths .ensures) (not-false _ (d .if2 .left)) (s .pre .5)
+
+same-length-3 : tie.Need-same-length-3
+same-length-3 c = search needs
+
+returns-3 : tie.Need-returns-3
+returns-3 c =
+    let r = c .before .before .before in
+    let w = r .before .before .before .before .before in
+    let e = w .before in
+    let y = e .before .before .before in
+    let k = y .before .before in
+    let s = k .before .before .before .before in
+    settle-dead _ _ _ _ _ (λ i. k .before .before .before .shared-slice-known .given i .fits) (words-of (s .args .table .now) (λ i. k .slice-known .given i .fits)) (s .pre .0, s .pre .1, s .pre .2, s .pre .3, s .pre .4) (y .ready .ensures) (not-false _ (e .if1 .left)) (w .first-waiting .ensures) (r .run .ensures) (not-true _ (c .if3 .taken))
+
+every-value-requires : tie.Need-every-value-requires
+every-value-requires c κs =
+    let r = c .before .before .before .before in
+    let w = r .before .before .before .before .before in
+    let e = w .before in
+    let y = e .before .before .before in
+    let k = y .before .before in
+    let s = k .before .before .before .before in
+    settle-strings _ _ _ _ _ (λ i. k .before .before .before .shared-slice-known .given i .fits) (words-of (s .args .table .now) (λ i. k .slice-known .given i .fits)) (s .pre .0, s .pre .1, s .pre .2, s .pre .3, s .pre .4) (y .ready .ensures) (not-false _ (e .if1 .left)) (w .first-waiting .ensures) (r .run .ensures)
+
+same-length-4 : tie.Need-same-length-4
+same-length-4 c = search needs
+
+returns-4 : tie.Need-returns-4
+returns-4 c =
+    let i = c .before .before in
+    let r = i .before .before .before in
+    let w = r .before .before .before .before .before in
+    let e = w .before in
+    let y = e .before .before .before in
+    let k = y .before .before in
+    let s = k .before .before .before .before in
+    settle-done _ _ _ _ _ (λ i. k .before .before .before .shared-slice-known .given i .fits) (words-of (s .args .table .now) (λ i. k .slice-known .given i .fits)) (s .pre .0, s .pre .1, s .pre .2, s .pre .3, s .pre .4) (y .ready .ensures) (not-false _ (e .if1 .left)) (w .first-waiting .ensures) (r .run .ensures) (not-false _ (i .if3 .left)) (c .every-value .ensures)
 
 pub settle-spec : {M : Type 1} → statement M
 settle-spec =
     tie.close
     (tie.spec
-    begin-requires
-    run-requires
+    ready-requires
     same-length
     returns
-    every-value-requires
+    first-waiting-requires
+    has-lengths-requires
     same-length-2
-    returns-2)
+    returns-2
+    run-requires
+    same-length-3
+    returns-3
+    every-value-requires
+    same-length-4
+    returns-4)

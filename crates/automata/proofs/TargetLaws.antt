@@ -1,0 +1,224 @@
+-- What each state moves to by the symbols of one word, kept; and the loops that ask by it. Assumes nothing.
+use mathlib.Core.Path.{_≡_, refl, sym, ap, subst, _∙_}
+use mathlib.Core.Logic.{_≢_, _⊎_, inl, inr, ⊎-elim}
+use mathlib.Core.Bool.{Bool, true, false, not, false≢true}
+use mathlib.Core.List.{List}
+use Prim.Native.Nat.{ℕ, _+_, _-_, _^_, _≤_, _<_}
+use native.Mathlib.Omega.{arith}
+use lib.Bits.{bitAnd, bitOr, and-le-r}
+use lib.Count.{trailingZeros}
+use lib.Dec.{eqb}
+use lib.ListN.{length, set, length-set}
+use lib.Seq.{getD-set-same, getD-set-other}
+use borrow.Author.Tests.{eqb-true, eqb-false, lt-ltb}
+use Rattle.model.specs.Words.{bit, word, noneFrom}
+use Rattle.model.specs.Constraints.{Automaton, move}
+use Rattle.laws.specs.Inclusion.{Within}
+use Rattle.laws.proofs.ListLaws.{and-true, true-and}
+use Rattle.laws.proofs.WordLaws.{in-bits, noneFrom-bits, or-bit-left, or-bit-right, of-or-bit, bit-high}
+use Rattle.laws.proofs.ShiftLaws.{bit-and, bit-flip, bit-mask}
+use Rattle.words.specs.Ends.{Lowest}
+use Rattle.words.proofs.EndLaws.{lowest-trailing}
+use Rattle.automata.specs.Machine.{stateCount, machine, Whole}
+use Rattle.automata.specs.StateSets.{Gathered, Moves, Enters, Successors, By, Added, Steps, Targets, Forgotten}
+use Rattle.automata.proofs.MachineLaws.{move-known}
+use Rattle.automata.proofs.SetLaws.{no-bit, Walked, walked-step, walked-skip, walked-one, ByState, ByEntering}
+
+-- ---- words without others
+
+pub and-both : (v u b : ℕ) → bit v b ≡ true → bit u b ≡ true → bit (bitAnd v u) b ≡ true
+and-both v u b x y = bit-and v u b ∙ true-and x y
+
+pub of-and : (v u b : ℕ) → bit (bitAnd v u) b ≡ true → (bit v b ≡ true) × (bit u b ≡ true)
+of-and v u b e = and-true (bit v b) (bit u b) (sym (bit-and v u b) ∙ e)
+
+-- a bit of v is one of u, or one of v without u
+pub with-or-without : (n v u b : ℕ) → b < n → u < 2 ^ n → bit v b ≡ true → (bit u b ≡ true) ⊎ (bit (bitAnd v (2 ^ n - 1 - u)) b ≡ true)
+with-or-without n v u b h l x = go (bit u b) refl
+  where
+    go : (t : Bool) → bit u b ≡ t → (bit u b ≡ true) ⊎ (bit (bitAnd v (2 ^ n - 1 - u)) b ≡ true)
+    go true e = inl e
+    go false e = inr (and-both v (2 ^ n - 1 - u) b x (bit-flip n u b l h ∙ ap not e))
+
+some-of : (w : ℕ) → w < 2 ^ 64 → w ≢ 0 → (b : ℕ) × (bit w b ≡ true)
+some-of w h d = (trailingZeros 64 w, lowest-trailing w (omega arith) h .here)
+
+-- ---- what is kept
+
+module _ (D : Automaton) (q k symbols : ℕ) where
+  pub targets-none : (tos : List ℕ) → q ≤ 32 → Forgotten tos → Targets D q k symbols tos
+  targets-none tos h f = record { size = f .size; each = λ p l. inl (f .none p (omega arith)) }
+
+  module _ (tos : List ℕ) (g : Targets D q k symbols tos) (p : ℕ) where
+    pub targets-at : p < q → word tos p ≢ 0 → Moves D k p symbols (word tos p)
+    targets-at h d = ⊎-elim (λ z. absurd (d z)) (λ m. m) (g .each p h)
+
+    pub targets-set : (r : ℕ) → p < 32 → Moves D k p symbols r → Targets D q k symbols (set tos p r)
+    targets-set r h m = record { size = length-set tos p r ∙ g .size; each = λ o l. go o l (eqb o p) refl }
+      where
+        go : (o : ℕ) → o < q → (t : Bool) → eqb o p ≡ t → (word (set tos p r) o ≡ 0) ⊎ Moves D k o symbols (word (set tos p r) o)
+        go o l true z = inr (rw (eqb-true o p z) (subst (Moves D k p symbols) (sym (getD-set-same tos p r 0 (let n = g .size in omega arith))) m))
+        go o l false z =
+            subst (λ (w : ℕ). (w ≡ 0) ⊎ Moves D k o symbols w) (sym (getD-set-other tos p o r 0 (eqb-false o p z))) (g .each o l)
+
+pub forgotten-turn : (tos : List ℕ) (i : ℕ) → i < length tos → ((p : ℕ) → p < i → word tos p ≡ 0) → (p : ℕ) → p < i + 1 → word (set tos i 0) p ≡ 0
+forgotten-turn tos i h f p l = go (eqb p i) refl
+  where
+    go : (t : Bool) → eqb p i ≡ t → word (set tos i 0) p ≡ 0
+    go true z = rw (eqb-true p i z) (getD-set-same tos i 0 0 h)
+    go false z = let y = eqb-false p i z in getD-set-other tos i p 0 0 y ∙ f p (omega arith)
+
+-- ---- forwards, where all states are found
+
+pub successors-all : (k : ℕ) (bs : List ℕ) → Whole k bs → (set symbols rest r all : ℕ) → Walked (stateCount bs) set
+    (ByState (machine k bs) k set symbols) rest r
+    → all ≡ 2 ^ (stateCount bs - 1 + 1) - 1 → r ≡ all → Successors (machine k bs) (stateCount bs) k set symbols r
+successors-all k bs w set symbols rest r all g e f = record {
+  sound = λ t b. let y = g .sound t b in let z = y .2 .1 in (z .0, z .1, (z .2, (y .0, y .1, y .2 .0, z .3)));
+  complete = λ t a h x.
+      let y = x .1 in
+      let q = w .some-state in
+      let n : stateCount bs - 1 + 1 ≡ stateCount bs = omega arith in
+      let l : t < stateCount bs = subst (λ (s : ℕ). s < stateCount bs) (y .3) (move-known k bs w (y .0) a (y .1) h) in
+      ap (λ (v : ℕ). bit v t) (f ∙ e ∙ ap (λ (m : ℕ). 2 ^ m - 1) n) ∙ bit-mask (stateCount bs) t ∙ lt-ltb t (stateCount bs) l;
+}
+
+-- ---- one state, backwards
+
+pub move-small : (k : ℕ) (bs : List ℕ) → Whole k bs → (p : ℕ) → p < stateCount bs → (a : ℕ) → a < k → move (machine k bs) p a < 32
+move-small k bs w p h a l = let m = move-known k bs w p a h l in let q = w .most-states in omega arith
+
+-- what symbol a of the word gives: itself, if p moves into the set by it
+abbrev pub ByInto : Automaton → ℕ → ℕ → ℕ → ℕ → ℕ → Type 0
+ByInto D p into symbols a t = (a ≡ t) × (bit symbols a ≡ true) × (bit into (move D p a) ≡ true)
+
+module _ (D : Automaton) (k p into symbols rest r a o m s : ℕ) (b : Bool) (g : Walked k symbols (ByInto D p into symbols) rest r) (low : Lowest rest a)
+    (e : o ≡ 2 ^ a)
+    (n : m ≡ move D p a) (h : b ≡ bit into m) where
+  pub by-skip : b ≡ false → s ≡ r → Walked k symbols (ByInto D p into symbols) (rest - o) s
+  by-skip q f = rw f (walked-skip k symbols _ rest r a o g low e (λ t x. false≢true (sym q ∙ h ∙ ap (bit into) n ∙ x .2)))
+
+  pub by-add : b ≡ true → s ≡ bitOr o r → Walked k symbols (ByInto D p into symbols) (rest - o) s
+  by-add q f =
+      let v : s ≡ bitOr (2 ^ a) r = f ∙ ap (λ (i : ℕ). bitOr i r) e in
+      rw v (walked-one k symbols _ rest r a o g low e a (refl, g .known a (low .here) .1, ap (bit into) (sym n) ∙ sym h ∙ q) (λ t x. x .0))
+
+module _ (D : Automaton) (k p into symbols found : ℕ) where
+  -- what is kept for the state
+  module _ (to : ℕ) (m : Moves D k p symbols to) where
+    to-there : (a : ℕ) → a < k → bit symbols a ≡ true → bit to (move D p a) ≡ true
+    to-there a l x = m .complete (move D p a) a l (x, refl)
+
+    pub added-none : bitAnd to into ≡ 0 → Added D k p into symbols found false found
+    added-none z = record {
+      whether = record { sound = λ e. absurd (false≢true e); complete = λ a l x. absurd (never a l (x .0) (x .1)) };
+      sound = λ a y. inl y;
+      keeps = λ a y. y;
+      complete = λ a l x y. absurd (never a l x y);
+    }
+      where
+        never : (a : ℕ) → a < k → bit symbols a ≡ true → bit into (move D p a) ≡ true → ⊥
+        never a l x y = no-bit (bitAnd to into) (move D p a) z (and-both to into (move D p a) (to-there a l x) y)
+
+    module _ (small : into < 2 ^ 32) (some : bitAnd to into ≢ 0) where
+      to-enters : Enters D k p into symbols true
+      to-enters =
+          let h = and-le-r to into in
+          let b = some-of (bitAnd to into) (omega arith) some in
+          let t = of-and to into (b .0) (b .1) in
+          let y = m .sound (b .0) (t .0) in
+          record { sound = λ e. (y .0, y .1, (y .2 .0, ap (bit into) (y .2 .1) ∙ t .1)); complete = λ a l x. refl }
+
+      pub added-all : ((a : ℕ) → a < k → move D p a < 32) → bitAnd to (2 ^ 32 - 1 - into) ≡ 0 → symbols < 2 ^ 64 → noneFrom k symbols ≡ true
+          → Within found symbols
+          → Added D k p into symbols found true symbols
+      added-all known z f e w = record { whether = to-enters; sound = λ a y. inr (low a y, y, inside a (low a y) y); keeps = w; complete = λ a l x y. x }
+        where
+          low : (a : ℕ) → bit symbols a ≡ true → a < k
+          low a y = noneFrom-bits k symbols e a (in-bits symbols a y (bit-high symbols 64 a f y))
+
+          inside : (a : ℕ) → a < k → bit symbols a ≡ true → bit into (move D p a) ≡ true
+          inside a l x = ⊎-elim (λ y. y) (λ y. absurd (no-bit (bitAnd to (2 ^ 32 - 1 - into)) (move D p a) z y))
+              (with-or-without 32 to into (move D p a) (known a l) small (to-there a l x))
+
+  -- the symbols that are not found yet
+  module _ (new : ℕ) (fs : symbols < 2 ^ 64) (ff : found < 2 ^ 64) (g : By D k p into (bitAnd symbols (2 ^ 64 - 1 - found)) new) where
+    of-new : (a : ℕ) → bit new a ≡ true → (a < k) × (bit symbols a ≡ true) × (bit into (move D p a) ≡ true)
+    of-new a y =
+        let t = g .sound a y in
+        subst (λ (i : ℕ). (i < k) × (bit symbols i ≡ true) × (bit into (move D p i) ≡ true)) (t .2 .0)
+        (t .1, of-and symbols (2 ^ 64 - 1 - found) (t .0) (t .2 .1) .0, t .2 .2)
+
+    in-new : (a : ℕ) → a < k → bit symbols a ≡ true → bit into (move D p a) ≡ true → (bit found a ≡ true) ⊎ (bit new a ≡ true)
+    in-new a l x y = ⊎-elim inl (λ z. inr (g .complete a a l (refl, z, y))) (with-or-without 64 symbols found a (bit-high symbols 64 a fs x) ff x)
+
+    pub added-more : Enters D k p into symbols true → Added D k p into symbols found true (bitOr new found)
+    added-more e = record {
+      whether = e;
+      sound = λ a y. ⊎-elim (λ z. inr (of-new a z)) inl (of-or-bit new found a y);
+      keeps = λ a y. or-bit-right new found a y;
+      complete = λ a l x y. ⊎-elim (or-bit-right new found a) (or-bit-left new found a) (in-new a l x y);
+    }
+
+    pub added-new : new < 2 ^ 64 → new ≢ 0 → Added D k p into symbols found true (bitOr new found)
+    added-new h d =
+        let b = some-of new h d in
+        let t = of-new (b .0) (b .1) in
+        added-more (record { sound = λ e. (b .0, t .0, (t .1, t .2)); complete = λ a l x. refl })
+
+    module _ (z : new ≡ 0) where
+      in-found : (a : ℕ) → a < k → bit symbols a ≡ true → bit into (move D p a) ≡ true → bit found a ≡ true
+      in-found a l x y = ⊎-elim (λ f. f) (λ n. absurd (no-bit new a z n)) (in-new a l x y)
+
+      pub added-again : (b : Bool) → Enters D k p into found b → b ≡ true → Within found symbols → Added D k p into symbols found true found
+      added-again b e q w =
+          let t = e .sound q in
+          record {
+            whether = record { sound = λ e. (t .0, t .1, (w (t .0) (t .2 .0), t .2 .1)); complete = λ a l x. refl };
+            sound = λ a y. inl y;
+            keeps = λ a y. y;
+            complete = in-found;
+          }
+
+      pub added-no : (b : Bool) → Enters D k p into found b → b ≡ false → Added D k p into symbols found false found
+      added-no b e q = record {
+        whether = record {
+          sound = λ e. absurd (false≢true e);
+          complete = λ a l x. absurd
+              (false≢true (sym q ∙ e .complete a l (in-found a l (x .0) (x .1), x .1)));
+        };
+        sound = λ a y. inl y;
+        keeps = λ a y. y;
+        complete = in-found;
+      }
+
+  pub added-kept : (to new : ℕ) → Moves D k p symbols to → into < 2 ^ 32 → bitAnd to into ≢ 0 → symbols < 2 ^ 64 → found < 2 ^ 64
+      → By D k p into (bitAnd symbols (2 ^ 64 - 1 - found)) new → Added D k p into symbols found true (bitOr new found)
+  added-kept to new m small some fs ff g = added-more new fs ff g (to-enters to m small some)
+
+-- ---- the states of a set, backwards
+
+-- what state p of the first set gives: the symbols of the word by which it moves into the second
+abbrev pub EnteringBy : Automaton → ℕ → ℕ → ℕ → ℕ → ℕ → ℕ → Type 0
+EnteringBy D k from into symbols p a = (bit from p ≡ true) × ((a < k) × (bit symbols a ≡ true) × (bit into (move D p a) ≡ true))
+
+module _ (D : Automaton) (q k symbols from into : ℕ) where
+  pub entries-within : (rest found : ℕ) → Walked q from (EnteringBy D k from into symbols) rest found → Within found symbols
+  entries-within rest found g a y = g .sound a y .2 .1 .1
+
+  pub entries-turn : (rest found p o r : ℕ) (b : Bool) → Walked q from (EnteringBy D k from into symbols) rest found → Lowest rest p → o ≡ 2 ^ p
+      → Added D k p into symbols found b r → Walked q from (EnteringBy D k from into symbols) (rest - o) r
+  entries-turn rest found p o r b g low e t = walked-step q from _ rest found p o g low e r
+      (λ a y. ⊎-elim inl (λ z. inr (g .known p (low .here) .1, z)) (t .sound a y)) (t .keeps) (λ a x. t .complete a (x .1 .0) (x .1 .1) (x .1 .2))
+
+  pub entries-end : (states found : ℕ) → Gathered q (ByEntering D k from into symbols) states → Gathered q (EnteringBy D k from into symbols) found
+      → Steps D q k symbols from into found states
+  entries-end states found s g = record {
+    by = record {
+      sound = λ a y. let t = g .sound a y in let m = t .2 .1 in (a, m .0, (refl, m .1, (t .0, t .1, t .2 .0, m .2)));
+      complete = λ t a l x.
+          let m = x .2 in
+          subst (λ (i : ℕ). bit found i ≡ true) (x .0) (g .complete a (m .0) (m .1) (m .2, (l, x .1, m .3)));
+    };
+    of = s;
+  }

@@ -1,0 +1,59 @@
+use Rattle.automata.proofs.TargetLaws.{move-small, targets-at, added-none, added-all, added-kept}
+use borrow.Author.Needs.{needs}
+use Rattle.automata.proofs.targets.entry.Statement.{statement}
+use Rattle.automata.proofs.targets.entry.Tie as tie
+use Rattle.automata.proofs.targets.entry.Reads as reads
+use Rattle.automata.proofs.targets.entry.Lts as lts
+use Rattle.automata.proofs.targets.by.Reads as by-reads
+use Rattle.automata.proofs.targets.first_entry.Reads as first-entry-reads
+
+mul-to : tie.Need-mul-to
+mul-to c = search needs
+
+element-copy-out-to : tie.Need-element-copy-out-to
+element-copy-out-to c = search needs
+
+first-entry-requires : tie.Need-first-entry-requires
+first-entry-requires c κs = search needs
+
+returns : tie.Need-returns
+returns c = search needs
+
+returns-2 : tie.Need-returns-2
+returns-2 c =
+    let s = c .before .before .before .before in
+    (added-none _ _ _ _ _ _ _ (targets-at _ _ _ _ _ (s .pre .5) _ (s .pre .2) (c .before .if1 .left)) (c .if2 .taken), s .pre .5)
+
+returns-3 : tie.Need-returns-3
+returns-3 c =
+    let e = c .before .before in
+    let s = e .before .before .before in (
+      added-all _ _ _ _ _ _ _ (targets-at _ _ _ _ _ (s .pre .5) _ (s .pre .2) (e .if1 .left)) (search needs) (c .before .if2 .left)
+          (move-small _ _ (s .pre .1) _ (s .pre .2)) (c .if3 .taken) (search needs) (s .pre .4) (s .pre .3),
+      s .pre .5,
+    )
+
+by-requires : tie.Need-by-requires
+by-requires c κs = search needs
+
+returns-4 : tie.Need-returns-4
+returns-4 c =
+    let e = c .before .before .before in
+    let s = e .before .before .before in (
+      added-kept _ _ _ _ _ _ _ _ (targets-at _ _ _ _ _ (s .pre .5) _ (s .pre .2) (e .if1 .left)) (search needs) (c .before .before .if2 .left)
+          (search needs) (search needs) (c .by .ensures),
+      s .pre .5,
+    )
+
+pub entry-spec : {M : Type 1} → statement M
+entry-spec =
+    tie.close
+    (tie.spec
+    mul-to
+    element-copy-out-to
+    first-entry-requires
+    returns
+    returns-2
+    returns-3
+    by-requires
+    returns-4)

@@ -1,0 +1,115 @@
+use mathlib.Core.Path.{_≡_, refl}
+use Prim.Native.Nat.{_^_, _<_}
+use Rattle.automata.specs.Machine.{stateCount, machine}
+use Rattle.automata.specs.StateSets.{Targets}
+use Rattle.automata.proofs.SetLaws.{Walked, ByState, walked-start, walked-next, walked-end, lowest-off, successors-add, successors-end}
+use Rattle.automata.proofs.TargetLaws.{successors-all}
+use native.Mathlib.Omega.{arith}
+use lib.Bits.{or-lt}
+use borrow.Author.Needs.{needs}
+use Rattle.automata.proofs.targets.steps_to.Statement.{statement}
+use Rattle.automata.proofs.targets.steps_to.Tie as tie
+use Rattle.automata.proofs.targets.steps_to.Reads as reads
+use Rattle.automata.proofs.targets.steps_to.Lts as lts
+use Rattle.automata.proofs.below.Reads as below-reads
+use Rattle.automata.proofs.states.Reads as states-reads
+use Rattle.automata.proofs.targets.asked.Reads as asked-reads
+use Rattle.words.proofs.low_mask.Reads as low-mask-reads
+use Rattle.words.proofs.lowest.Reads as lowest-reads
+use Rattle.words.proofs.singleton.Reads as singleton-reads
+
+abbrev Inv-loop : tie.InvT-loop
+Inv-loop d k symbols tos₀ set q all rest₀ r₀ tos rest r = Walked (stateCount d) set (ByState (machine k d) k set symbols) rest r × Targets (machine k d)
+    (stateCount d) k symbols tos × (r < 2 ^ 32)
+
+abbrev μ-loop : tie.MeasureT-loop
+μ-loop d k symbols tos₀ set q all rest₀ r₀ tos rest r = rest
+
+states-requires : tie.Need-states-requires Inv-loop μ-loop
+states-requires c κs = search needs
+
+sub-low-mask : tie.Need-sub-low-mask Inv-loop μ-loop
+sub-low-mask c = search needs
+
+low-mask-requires : tie.Need-low-mask-requires Inv-loop μ-loop
+low-mask-requires c κs = search needs
+
+below-requires : tie.Need-below-requires Inv-loop μ-loop
+below-requires c κs = search needs
+
+loop-holds : tie.Need-loop-holds Inv-loop μ-loop
+loop-holds c =
+    let s = c .before .before .before .before in
+    (walked-start _ _ _ _ (λ i t x. x .0) (rw (c .before .before .states .ensures) at (c .below .ensures)), s .pre .2, omega arith)
+
+lowest-requires : tie.Need-lowest-requires Inv-loop μ-loop
+lowest-requires c κs = search needs
+
+asked-requires : tie.Need-asked-requires Inv-loop μ-loop
+asked-requires c κs =
+    let l = c .before .before .before .loop in
+    (search needs, search needs, walked-next _ _ _ _ _ _ (l .inv .0) (c .before .lowest .ensures), l .inv .1)
+
+cast-if1 : tie.Need-cast-if1 Inv-loop μ-loop
+cast-if1 c =
+    let l = c .before .before .before .before .loop in
+    omega (arith, or-lt 32 (c .asked .result) (l .r) (search needs) (l .inv .2))
+
+returns : tie.Need-returns Inv-loop μ-loop
+returns c =
+    let a = c .before in
+    let w = a .before .before in
+    let l = w .before .before .loop in
+    let m = w .before .before .before .before in
+    let s = m .before .before .before in (
+      successors-all _ _ (s .pre .1) _ _ _ _ _ (successors-add _ _ _ _ _ _ _ _ _ _ (l .inv .0) (w .lowest .ensures) refl (a .asked .ensures .0))
+          (rw (m .before .states .ensures) at (m .low-mask .ensures)) (c .if1 .taken),
+      a .asked .ensures .1,
+    )
+
+singleton-requires : tie.Need-singleton-requires Inv-loop μ-loop
+singleton-requires c κs = search needs
+
+sub-rest : tie.Need-sub-rest Inv-loop μ-loop
+sub-rest c = lowest-off _ _ _ (c .before .before .before .before .lowest .ensures) (c .singleton .ensures) .0
+
+loop-less : tie.Need-loop-less Inv-loop μ-loop
+loop-less c = lowest-off _ _ _ (c .before .before .before .before .lowest .ensures) (c .singleton .ensures) .1
+
+loop-again : tie.Need-loop-again Inv-loop μ-loop
+loop-again c =
+    let a = c .before .before in
+    let w = a .before .before in
+    let l = w .before .before .loop in (
+      successors-add _ _ _ _ _ _ _ _ _ _ (l .inv .0) (w .lowest .ensures) (c .singleton .ensures) (a .asked .ensures .0),
+      a .asked .ensures .1,
+      or-lt 32
+          (a .asked .result) (l .r) (search needs) (l .inv .2),
+    )
+
+returns-2 : tie.Need-returns-2 Inv-loop μ-loop
+returns-2 c =
+    let l = c .before .loop in
+    let e : l .rest ≡ 0 = omega arith in
+    (successors-end _ _ _ _ _ _ (walked-end _ _ _ _ _ e (l .inv .0)), l .inv .1)
+
+pub steps-to-spec : {M : Type 1} → statement M
+steps-to-spec =
+    tie.close
+    (tie.spec
+    Inv-loop
+    μ-loop
+    states-requires
+    sub-low-mask
+    low-mask-requires
+    below-requires
+    loop-holds
+    lowest-requires
+    asked-requires
+    cast-if1
+    returns
+    singleton-requires
+    sub-rest
+    loop-less
+    loop-again
+    returns-2)

@@ -1,0 +1,71 @@
+use mathlib.Core.Path.{_≡_, sym, _∙_}
+use native.Mathlib.Omega.{arith}
+use Rattle.cat.specs.Gathering.{Gathered}
+use Rattle.cat.proofs.GatherLaws.{lowest-off, gather-turn}
+use borrow.Author.Needs.{needs}
+use Rattle.cat.proofs.gather.Statement.{statement}
+use Rattle.cat.proofs.gather.Tie as tie
+use Rattle.cat.proofs.gather.Reads as reads
+use Rattle.cat.proofs.gather.Lts as lts
+use Rattle.cat.proofs.split.Reads as split-reads
+use Rattle.words.proofs.lowest.Reads as lowest-reads
+use Rattle.words.proofs.singleton.Reads as singleton-reads
+
+abbrev Inv-loop : tie.InvT-loop
+Inv-loop t x y z lengths r₀ rest₀ last₀ r rest last = Gathered t x y z rest last r
+
+abbrev μ-loop : tie.MeasureT-loop
+μ-loop t x y z lengths r₀ rest₀ last₀ r rest last = rest
+
+loop-holds : tie.Need-loop-holds Inv-loop μ-loop
+loop-holds c = c .before .before .pre .1
+
+lowest-requires : tie.Need-lowest-requires Inv-loop μ-loop
+lowest-requires c κs = search needs
+
+split-requires : tie.Need-split-requires Inv-loop μ-loop
+split-requires c κs =
+    let l = c .before .before .before in
+    let a = l .before .before .before in
+    let w = c .before .lowest .ensures in
+    (a .pre .0, l .loop .inv .ahead _ (w .here), w .small, l .loop .inv .size)
+
+singleton-requires : tie.Need-singleton-requires Inv-loop μ-loop
+singleton-requires c κs = search needs
+
+sub-rest : tie.Need-sub-rest Inv-loop μ-loop
+sub-rest c = lowest-off _ _ _ (c .before .before .before .before .before .lowest .ensures) (c .singleton .ensures) .0
+
+loop-less : tie.Need-loop-less Inv-loop μ-loop
+loop-less c = lowest-off _ _ _ (c .before .before .before .before .before .lowest .ensures) (c .singleton .ensures) .1
+
+loop-again : tie.Need-loop-again Inv-loop μ-loop
+loop-again c =
+    let p = c .before .before .before in
+    let w = p .before .before in
+    gather-turn _ _ _ _ _ _ _ _ _ _ _ (c .singleton .ensures) (p .split .ensures) (w .lowest .ensures) (w .before .before .loop .inv)
+
+same-length : tie.Need-same-length Inv-loop μ-loop
+same-length c = c .before .loop .inv .size ∙ sym (c .before .before .before .before .pre .1 .size)
+
+returns : tie.Need-returns Inv-loop μ-loop
+returns c =
+    let g = c .before .loop .inv in
+    let e : c .before .loop .rest ≡ 0 = omega arith in
+    record { size = g .size; support = rw e at (g .support) }
+
+pub gather-spec : {M : Type 1} → statement M
+gather-spec =
+    tie.close
+    (tie.spec
+    Inv-loop
+    μ-loop
+    loop-holds
+    lowest-requires
+    split-requires
+    singleton-requires
+    sub-rest
+    loop-less
+    loop-again
+    same-length
+    returns)

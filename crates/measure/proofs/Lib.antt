@@ -1,0 +1,2 @@
+-- The laws of steps on the table of `measure`.
+pub mod StepLaws

@@ -1,0 +1,2 @@
+-- The definitions that the contracts of `measure` cite.
+pub mod TidyRows
