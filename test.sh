@@ -22,10 +22,11 @@ trap 'rm -rf "$work"' EXIT
 { rt ci 2>&1; echo $? > "$work/status"; } | tee "$work/log"
 [ "$(cat "$work/status")" = 0 ] || exit 1
 
-# The gate has just left the program in target/bin. What it has proved is put into an archive for C and Rust, while tests run that need none.
+# The gate has just left the programs in target/bin. What it has proved is put into an archive for C and Rust, while tests run that need none.
 rt staticlib cobleskeg_c > "$work/archive" 2>&1 &
 archive=$!
 python3 tests/clash.py || exit 1
+python3 tests/rules.py || exit 1
 python3 tests/doubtful.py || exit 1
 wait "$archive" || { cat "$work/archive"; exit 1; }
 tail -n 1 "$work/archive"

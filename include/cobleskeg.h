@@ -8,7 +8,7 @@
  * numbers: 64 s + t words.
  *
  * Answers. Each entry that can refuse returns 0 where it accepts, or else the number of the first refusal that applies, in the order of the numbers that are
- * listed at the entry. A refusal writes nothing: neither a table, nor the room, nor a result behind a pointer.
+ * listed at the entry. A refusal writes nothing: neither a table, nor the room, nor a buffer, nor a result behind a pointer.
  *
  *    1  file    it has less than 24 bytes
  *    2  file    it does not end in the bytes TAIL
@@ -23,14 +23,18 @@
  *   11  step    there is no such step: it is constraints + s or above
  *   12  room    it has less than 3 (64 s + t) words
  *   13  answer  it has not 64 s + t words
+ *   14  text    it has more than 63 bytes, or is no pattern
+ *   15  text    the number of symbols is not 1 to 64, or a letter's symbol is not below it
+ *   16  text    its automaton has more than 32 states
+ *   17  buffer  it is shorter than the automaton's bytes
  *
  * What the caller sees to, and no entry can test: a pointer is not null (also where the count beside it is 0) and is aligned for its type, the memory behind
  * it has as many elements as the count says, and no memory that an entry writes overlaps other memory that it is given. Given that, every call ends and
  * touches nothing else; no entry keeps a pointer, allocates, or has state of its own, so calls on separate buffers may run at once.
  *
  * Stack. Search goes deepest: 25,856 bytes below its caller, measured on problems at every limit (bench/stack.py); one Regular constraint on a string of 63
- * symbols is enough for that, and Step, Settle and Perform then take some 4,000 less. A thread that calls them should have COBLESKEG_STACK bytes of stack, or
- * more where the caller itself needs much.
+ * symbols is enough for that, and Step, Settle and Perform then take some 4,000 less. Compile takes 14,944 on 63 letters side by side. A thread that calls them
+ * should have COBLESKEG_STACK bytes of stack, or more where the caller itself needs much.
  */
 #ifndef COBLESKEG_H
 #define COBLESKEG_H
@@ -59,6 +63,10 @@ extern "C" {
 /* The largest problem file, in bytes, and the largest table, in words. */
 #define COBLESKEG_LARGEST_FILE 25024
 #define COBLESKEG_LARGEST_TABLE 1040
+
+/* The longest text of a pattern, and the largest automaton, in bytes. */
+#define COBLESKEG_LONGEST_PATTERN 63
+#define COBLESKEG_LARGEST_AUTOMATON 2053
 
 /* The stack of a thread that calls the entries, in bytes: more than twice what they were measured to take. */
 #define COBLESKEG_STACK 65536
@@ -96,6 +104,13 @@ uint8_t cobleskeg_search(const uint8_t *file, size_t size, uint32_t budget, uint
 /* Perform: a list of calls on one table, one after the other. A number of the list is that of a step, or COBLESKEG_SETTLE.
  * A call that is refused leaves `table` as it was, and the list goes on. No bit of `table` that a solution within it uses is lost. */
 void cobleskeg_perform(const uint8_t *file, size_t size, const uint32_t *list, size_t calls, uint64_t *table, size_t words);
+
+/* Compile: the automaton of a pattern over the symbols 0 to symbols - 1, as the bytes that stand for it in a problem file. `text` is the pattern, in ASCII.
+ * Its letters are 0 to 9 for the symbols 0 to 9, `.` for 10, a to z for 11 to 36, `-` for 37 and `/` for 38. Branches are parted by `|`, items stand side by
+ * side, an item is a letter or a pattern in round brackets, and one `*` may follow it, for any number of times; an empty branch stands for the empty string.
+ * Refuses 14 to 17. Accepted, the automaton accepts just the strings that the pattern stands for, `written` says how many bytes of `buffer` it takes, which
+ * is 5 + states * symbols, and the bytes of `buffer` beyond them stay. COBLESKEG_LARGEST_AUTOMATON bytes are enough for every pattern. */
+uint8_t cobleskeg_compile(const uint8_t *text, size_t size, size_t symbols, uint8_t *buffer, size_t room, size_t *written);
 
 #ifdef __cplusplus
 }

@@ -1,11 +1,11 @@
 # A `none` that says nothing: the warnings of `tools/problem.py`, with their lines. Domains and names by themselves; what counts as a template; and templates
 # that have no name even alone, by the program. Expected lines and words stand here by hand.
-#     python3 tests/doubtful.py       after `rt check clash`
+#     python3 tests/doubtful.py       after `rt check clash rule`
 import sys
 import tempfile
 from pathlib import Path
 
-from examples import EXAMPLES, FOLDER, PROGRAM, ROOT
+from examples import EXAMPLES, FOLDER, PROGRAMS, ROOT
 from solve import NONE, run, stand_in
 
 sys.path.insert(0, str(ROOT / "tools"))
@@ -45,6 +45,12 @@ DOUBTS = [
     ),
     ("alphabet a b\nstring x\nautomaton d\nstate q any to r\nstate r a to q, b to end\naccepting end any to q\nregular x d", []),
     ("alphabet a\nautomaton d\naccepting q any to q", [(2, "automaton 'd' is in no constraint")]),
+    ("alphabet a b\nstring x\nrule d = (a|b)*\nregular x d", []),
+    ("alphabet a b\nstring x\nrule d =\nregular x d", []),  # the empty string alone, but that is something
+    ("alphabet a b\nrule d = a", [(2, "rule 'd' is in no constraint")]),
+    ("alphabet a..c .\nstring x\nrule d = a..c*\nregular x d", [(3, "rule 'd' has a..c, which is no range in a pattern, but a, two dots and c")]),
+    ('alphabet a..c .\nstring x\nrule d = a".."c*|..|a..b"c"\nregular x d', [(3, "rule 'd' has a..b, which is no range in a pattern, but a, two dots and b")]),
+    ('alphabet a..c .\nstring x\nrule d = "a..c"|a...c|a. .c\nregular x d', []),
 ]
 
 A, B = "cat a1 a2 name\n", "cat b1 b2 name\n"
@@ -110,6 +116,11 @@ SAID = [
     # a name of B has a b, as the rule has it, and a name of A has none
     (
         text(A + B + "regular name rule\n", a1=ONE, a2=ONE, b1="length 1 of b", b2=ONE) + RULE,
+        [(7, f"note: no name of the template a1 a2 = name meets line 9, {CLASH}")],
+    ),
+    # the same rule as a pattern
+    (
+        text(A + B + "regular name rule\n", a1=ONE, a2=ONE, b1="length 1 of b", b2=ONE) + "rule rule = (a|b|c|-)*b(a|b|c|-)*\n",
         [(7, f"note: no name of the template a1 a2 = name meets line 9, {CLASH}")],
     ),
     # the rule is said of a part, so that it can only be A's
@@ -192,9 +203,8 @@ def examples():
 
 
 def main():
-    if not PROGRAM.is_file():
-        wrong = ["target/bin/clash is not there: run `rt check clash` first"]
-    else:
+    wrong = [f"target/bin/{path.name} is not there: run `rt check {path.name}` first" for path in PROGRAMS if not path.is_file()]
+    if not wrong:
         with tempfile.TemporaryDirectory() as folder:
             wrong = by_hand() + by_the_tool(Path(folder)) + calls(Path(folder)) + examples()
     for line in wrong:

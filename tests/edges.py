@@ -1,4 +1,4 @@
-# The edges of document 01: each a call of an entry on a file, with lent buffers, and what it answers and leaves by the paper.
+# The edges of document 01 and of the requests: each a call of an entry on a file or a text, with lent buffers, and what it answers and leaves by the papers.
 # What is expected stands here by hand. `python3 tests/edges.py --write` lays the lists out as the standard input and output of the crate `edges`,
 # which the gate runs; without `--write` it checks that both are these lists.
 import sys
@@ -295,6 +295,75 @@ SETTLES += [(f"refusal {n} comes first", content, [MARK], f"refused {n}", None) 
 LISTS += [(f"a file with refusal {n}", content, [0, SETTLE], [MARK], None) for n, content in REFUSED.items()]
 SEARCHES += [(f"refusal {n} comes first", content, 1, 1, 1, f"refused {n}", None) for n, content in REFUSED.items()]
 
+# ---- patterns
+
+def machine(k, accepting, *rows):
+    """The bytes of an automaton: its accepting states, and for each state the next one by each of k symbols, or by all of them where one is given."""
+    return bytes([len(rows)]) + bits(accepting).to_bytes(4, "little") + b"".join(bytes(row if len(row) == k else row * k) for row in rows)
+
+
+def chain(n, k):
+    """n letters `0` side by side: after the start and the first letter's state the empty set is reached, by symbol 1, where there is one; else at the end."""
+    states = [None, *range(n)] + ["empty"] if k == 1 else [None, 0, "empty", *range(1, n)]
+    following = {None: 0, "empty": "empty", n - 1: "empty", **{i: i + 1 for i in range(n - 1)}}
+    rows = ([states.index(following[x])] + [states.index("empty")] * (k - 1) for x in states)
+    return machine(k, {states.index(n - 1)}, *rows)
+
+
+NOTHING = machine(1, {0}, [1], [1])  # the empty string alone: the start, and the empty set
+ONE = machine(1, {1}, [1], [2], [2])  # one letter: the start, the letter, the empty set
+ANY = machine(1, {0, 1}, [1], [1])  # any number of one letter: the start, the letter
+
+# (what is tried, text, k, bytes lent, the bytes that are written or the refusal)
+PATTERNS = [
+    ("the empty text", b"", 1, 7, NOTHING),
+    ("two empty branches", b"|", 1, 7, NOTHING),
+    ("a group of the empty string", b"()", 1, 7, NOTHING),
+    ("the empty string any number of times", b"()*", 1, 7, NOTHING),
+    ("a letter", b"0", 1, 8, ONE),
+    ("a letter any number of times", b"0*", 1, 7, ANY),
+    ("a star in a group with a star", b"(0*)*", 1, 7, ANY),
+    ("equal letters in two places", b"0|0", 1, 8, ONE),
+    ("letters side by side", b"01", 2, 13, machine(2, {3}, [1, 2], [2, 3], [2], [2])),
+    ("a set of two letters", b"(0|1)*0", 2, 11, machine(2, {1}, [1, 2], [1, 2], [1, 2])),
+    ("an optional letter", b"(0|)1", 2, 13, machine(2, {2}, [1, 2], [3, 2], [3], [3])),
+    ("63 bytes", b"0*" * 31 + b"0", 1, 7, machine(1, {1}, [1], [1])),
+    ("64 bytes", b"0*" * 32, 1, 7, 14),
+    ("64 bytes that break the rules otherwise too, no symbol", b"*" * 64, 0, 0, 14),
+    ("31 groups", b"(" * 31 + b"0" + b")" * 31, 1, 8, ONE),
+    ("31 groups with no letter", b"(" * 31 + b")" * 31, 1, 7, NOTHING),
+    ("31 groups, the last one not closed", b"(" * 31 + b"0" + b")" * 30, 1, 8, 14),
+    ("32 states", b"0" * 30, 1, 37, chain(30, 1)),
+    ("33 states", b"0" * 31, 1, 38, 16),
+    ("32 states over 64 symbols", b"0" * 30, 64, 2053, chain(30, 64)),
+    ("32 states over 64 symbols, a byte short", b"0" * 30, 64, 2052, 17),
+    ("33 states over 64 symbols", b"0" * 31, 64, 4096, 16),
+    ("a byte more than is needed", b"0*", 1, 8, ANY),
+    ("a byte less than is needed", b"0*", 1, 6, 17),
+    ("no byte lent", b"0*", 1, 0, 17),
+    ("no symbol", b"", 0, 7, 15),
+    ("64 symbols", b"", 64, 133, machine(64, {0}, [1], [1])),
+    ("65 symbols", b"", 65, 135, 15),
+    ("the greatest number of symbols that a case can give", b"", 2**32 - 1, 7, 15),
+    ("a broken text and no symbol", b"*", 0, 0, 14),
+    ("a letter without its symbol, 33 states", b"0" * 31 + b"1", 1, 0, 15),
+    ("a letter without its symbol, no byte lent", b"/", 1, 0, 15),
+    ("33 states and no byte lent", b"0" * 31, 1, 0, 16),
+]
+# each letter at the first k that has its symbol, and one below
+PATTERNS += [
+    (f"{letter} with {k} symbols", letter.encode(), k, 5 + 3 * k, 15 if k == symbol else machine(k, {2}, [1] * symbol + [2], [1], [1]))
+    for letter, symbol in (("9", 9), (".", 10), ("a", 11), ("z", 36), ("-", 37), ("/", 38))
+    for k in (symbol, symbol + 1)
+]
+PATTERNS += [("/ with 64 symbols", b"/", 64, 197, machine(64, {2}, [1] * 38 + [2] + [1] * 25, [1], [1]))]
+# each misplaced sign, and the bytes beside the letters
+PATTERNS += [
+    (f"{text!r} is no pattern", text, 64, 4096, 14)
+    for text in (b"*", b"|*", b"0|*", b"(*)", b"0**", b"()**", b"(0)**", b")", b"0)", b"(0))", b"|)", b"(", b"0(", b"(0", b"((0)", b"(|", b")(", b" ", b"0 0", b"+")
+    + (b",", b":", b"@", b"A", b"Z", b"`", b"{", b"\\", b"\0", b"\x80", b"\xff", b"0\n")
+]
+
 
 def two(n):
     return n.to_bytes(2, "little")
@@ -366,13 +435,17 @@ def listing():
     for _, content, calls, lent, after in LISTS:
         given.append(on_table(4, content, lent, calls=calls))
         printed.append("perform" + left(lent, after))
+    for _, text, k, lent, answered in PATTERNS:
+        given.append(laid(5, text, 0, room=lent, argument=k))
+        written = b"" if isinstance(answered, int) else answered
+        printed.append("compile " + (f"written {len(written)}" if written else answer(answered)) + left([], list(written) + [MARK] * (lent - len(written))))
     return b"".join(given), "".join(line + "\n" for line in printed).encode()
 
 
 def main():
     if not stands("edges", listing()):
         return 1
-    counts = ((EDGES, "files"), (STEPS, "steps"), (SETTLES, "settlings"), (SEARCHES, "searches"), (LISTS, "lists of calls"))
+    counts = ((EDGES, "files"), (STEPS, "steps"), (SETTLES, "settlings"), (SEARCHES, "searches"), (LISTS, "lists of calls"), (PATTERNS, "patterns"))
     print("edges: " + ", ".join(f"{len(cases)} {name}" for cases, name in counts) + " stand in crates/edges")
     return 0
 

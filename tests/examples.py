@@ -1,7 +1,7 @@
 # The examples: each is a text, the problem file it is packed into, and the lines that the program prints for it. Checked are the packing, the answer of the
 # program and of the second solver, the round trip through `show`, that a solution meets every constraint of its text, and what the texts say of changes to
 # them; also the example of docs/TEXT.md. How a search ends and at which node stands here by hand, as each text explains it.
-#     python3 tests/examples.py            after `rt check clash`; it builds the second solver with cargo
+#     python3 tests/examples.py            after `rt check clash rule`; it builds the second solver with cargo
 #     python3 tests/examples.py --write    lays out the problem files, not the answers
 import subprocess
 import sys
@@ -13,6 +13,7 @@ from clash import LISTING
 ROOT = Path(__file__).resolve().parent.parent
 FOLDER = ROOT / "examples"
 PROGRAM = ROOT / "target" / "bin" / "clash"
+PROGRAMS = [PROGRAM, PROGRAM.with_name("rule")]
 CARGO = ROOT / "target" / "cargo"
 sys.path.insert(0, str(ROOT / "tools"))
 import packing
@@ -24,6 +25,7 @@ EXAMPLES = {
     "p14": ("found 2", {"x": "0", "y": "1", "z": "01", "n": 1}),
     "renditions": ("found 8", {"name": "aa-hd-000", "signer_high": "aa", "signer_plain": "aa-hd"}),
     "rule": ("none 1", {}),
+    "signers": ("none 1", {}),
     "never": ("none 8", {}),
     "counter": ("found 5", {"name": "aa-10800", "counter_1080": "0", "counter_master": "10800", "width_1080": 1, "width_master": 5}),
     "budget": ("spent 65536", {}),
@@ -182,6 +184,7 @@ def changed_texts():
     rule, counter, budget = "\n".join(statements("rule")[:-1]), "\n".join(statements("counter")), "\n".join(statements("budget"))
     one_width = counter.replace("number width_1080 in 1..5\n", "").replace("width_1080", "width_master")
     yield "rule.text without its last line", rule, path("renditions", "answer").read_text()
+    yield "signers.text with a signer called hd", "\n".join(statements("signers")).replace("eva", "hd"), "found "
     yield "counter.text with one width", one_width, "none "
     yield "counter.text with a dash behind the rendition", counter.replace('"-1080"', '"-1080-"'), "none "
     yield "budget.text with five digits", budget.replace("length 8", "length 5"), "none 11111\n"
@@ -236,8 +239,7 @@ def main():
     expected = {path(name, ending) for name in EXAMPLES for ending in ("text", "problem", "answer")}
     present = set(FOLDER.iterdir())
     wrong = [f"{file.name} is not there" for file in sorted(expected - present)] + [f"{file.name} is of no example" for file in sorted(present - expected)]
-    if not PROGRAM.is_file():
-        wrong.append("target/bin/clash is not there: run `rt check clash` first")
+    wrong += [f"target/bin/{path.name} is not there: run `rt check {path.name}` first" for path in PROGRAMS if not path.is_file()]
     subprocess.run(["cargo", "build", "--release", "--offline", "--quiet", "--target-dir", str(CARGO)], cwd=ROOT / "second", check=True)
     solvers = [PROGRAM, CARGO / "release" / "second"]
     wrong = wrong or list(faults(solvers))

@@ -1,5 +1,5 @@
 # The C interface, tested from outside: the C programs and the Rust crates over the archive, and the comparison with the second solver by the thousand.
-#     python3 tests/interface.py [--cases N] [--seed S]        50,000 cases of seed 1, where not said
+#     python3 tests/interface.py [--cases N] [--patterns N] [--seed S]        50,000 cases of seed 1 and 4 patterns for 10 cases, where not said
 # It needs a C and a C++ compiler, nm and cargo, and what `rt staticlib cobleskeg_c` and `rt check clash` leave in target. All that it builds goes to target too.
 import argparse
 import os
@@ -174,6 +174,7 @@ def rust_tests():
 def main():
     parser = argparse.ArgumentParser()
     parser.add_argument("--cases", type=int, default=50000)
+    parser.add_argument("--patterns", type=int)
     parser.add_argument("--seed", type=int, default=1)
     given = parser.parse_args()
     missing = [f"target/{path.relative_to(TARGET)} is not there: run `{command}` first" for path, command in MADE_BY.items() if not path.is_file()]
@@ -189,11 +190,13 @@ def main():
         calls_of_answer()
         expect("answer on the example of docs/FORMAT.md", printed(ANSWER, given=format_example.listed()[0]), (format_example.answer(), STATUS["found"]))
         compare = [CARGO / "release" / "compare", "--cases", given.cases, "--seed", given.seed, "--program", PROGRAM]
+        compare += [] if given.patterns is None else ["--patterns", given.patterns]
         print(run(compare, errors=None).strip(), flush=True)  # how far it is shows at once
     except (Failure, OSError) as failure:
         print(f"interface: {failure}")
         return 1
-    print(f"interface: {checks}; {tests} tests of Rust crates; examples: {count}; {given.cases} cases of seed {given.seed} agree with the second solver")
+    compared = f"{given.cases} cases of seed {given.seed}, and its patterns, agree with the second solver"
+    print(f"interface: {checks}; {tests} tests of Rust crates; examples: {count}; {compared}")
     return 0
 
 

@@ -1,6 +1,6 @@
 # `tools/problem.py solve` as a script sees it: exit status, standard output and standard error. First with stand-ins that end in every way a program can; then
 # with the program and the archive; then in a copy of the tools, where something is missing. Statuses and words stand here by hand.
-#     python3 tests/solve.py        after `rt check clash` and `rt staticlib cobleskeg_c`; it needs a C compiler
+#     python3 tests/solve.py        after `rt check clash rule` and `rt staticlib cobleskeg_c`; it needs a C compiler
 import os
 import resource
 import shutil
@@ -15,7 +15,7 @@ from examples import EXAMPLES, FOLDER, ROOT, statements
 TOOL = Path("tools") / "problem.py"
 TARGET = ROOT / "target"
 ARCHIVE = TARGET / "staticlib" / "libcobleskeg_c.a"
-MADE_BY = {TARGET / "bin" / "clash": "rt check clash", ARCHIVE: "rt staticlib cobleskeg_c"}
+MADE_BY = {TARGET / "bin" / "clash": "rt check clash", TARGET / "bin" / "rule": "rt check rule", ARCHIVE: "rt staticlib cobleskeg_c"}
 NONE, FOUND, SPENT, REFUSED, TROUBLE = range(5)
 STATUS = {"none": NONE, "found": FOUND, "spent": SPENT, "refused": REFUSED}
 P14 = FOLDER / "p14.text"
@@ -199,7 +199,7 @@ def building(folder):
     said = "rt: model proved (7 s)\nnote: a large solution\nrt: {}\n"
     cases = [("ok, 25 crates proved", 0, 0), ("clash NOT PROVED (exit 1, 8 s)", 1, TROUBLE), ("no such crate", 2, TROUBLE)]
     for line, status, expected in cases:
-        stand_in(root / "bin", f'[ "$*" = "check clash" ] && printf "{said.format(line)}"; exit {status}', "rt")
+        stand_in(root / "bin", f'[ "$*" = "check clash rule" ] && printf "{said.format(line)}"; exit {status}', "rt")
         done = subprocess.run([sys.executable, str(root / "tools" / "build.py")], env=dict(os.environ, PATH=str(root / "bin")), capture_output=True)
         shown = f"rt: model proved (7 s)\nrt: {line}\n"
         if (done.returncode, done.stdout.decode(), bool(done.stderr)) != (expected, shown, expected != 0):

@@ -1,5 +1,6 @@
 # The text form and its tool, tools/problem.py: texts against files laid out by hand, files shown and packed again, broken texts with the line and the words of
-# their error, refused files by their number, answers in words. `python3 tests/text.py`; it needs neither the program nor the second solver.
+# their error, refused files by their number, answers in words. `python3 tests/text.py`; it needs no program and no second solver, so that what needs the one
+# that makes automata of patterns is in tests/rules.py.
 import random
 import subprocess
 import sys
@@ -12,8 +13,10 @@ ROOT = Path(__file__).resolve().parent.parent
 TOOL = ROOT / "tools" / "problem.py"
 sys.path[:0] = [str(ROOT / "tools"), str(ROOT / "bench")]
 import packing
+import patterns
 import textform
 import wording
+from lines import Line
 from problems import PROBLEMS
 
 GENERATED, SEED = 300, 20
@@ -71,7 +74,7 @@ SHOWN = [
 
 X, N, D = 'string x = "a"\n', "number n in 1\n", "automaton d\n"
 LETTERS64 = 'alphabet a..z A..Z 0..9 - " "'
-STATEMENTS = "alphabet, string, at, number, automaton, state, accepting, eq, neq, rev, cat, sub, len, regular"
+STATEMENTS = "alphabet, string, at, number, rule, automaton, state, accepting, eq, neq, rev, cat, sub, len, regular"
 
 # (text, line of the error, its words)
 BROKEN = [
@@ -111,7 +114,7 @@ BROKEN = [
     (ABC + X + "number x in 1", 3, "'x' is declared twice: it is a string in line 2"),
     (ABC + "".join(f"string x{i} length 1\n" for i in range(17)), 18, "'x16' is one too many: expected 16 strings at most"),
     (ABC + "".join(f"number n{i} in 1\n" for i in range(17)), 18, "'n16' is one too many: expected 16 numbers at most"),
-    (ABC + "".join(f"automaton d{i}\nstate q any to q\n" for i in range(9)), 18, "'d8' is one too many: expected 8 automata at most"),
+    (ABC + "".join(f"automaton d{i}\nstate q any to q\n" for i in range(9)), 18, "'d8' is one too many: expected 8 automata at most, rules included"),
     (ABC + "at 1 a", 2, "an 'at' line belongs under a 'string' line with lengths"),
     (ABC + X + "at 1 a", 3, "an 'at' line belongs under a 'string' line with lengths"),
     (ABC + "string x length 1\nnumber n in 1\nat 1 a", 4, "an 'at' line belongs under a 'string' line with lengths"),
@@ -121,6 +124,37 @@ BROKEN = [
     (ABC + "number n = 3", 2, "expected 'in' and the values, found '='"),
     (ABC + "number n in 64", 2, "64 is out of range: a value is 0 to 63"),
     (ABC + 'number n in "3"', 2, 'expected a value or a range such as 2..4, found "3"'),
+    (ABC + "rule", 2, "expected the name of a rule, found the end of the line"),
+    (ABC + "rule r", 2, "expected '=' and a pattern, found the end of the line"),
+    (ABC + "rule r a*", 2, "expected '=' and a pattern, found 'a*'"),
+    (ABC + "rule r =a*", 2, "expected '=' and a pattern, found '=a*'"),
+    (ABC + "rule r = (a|d)*", 2, "the letter 'd' is not in the alphabet (a..c -)"),
+    (ABC + "rule r = (a|A)*", 2, "the letter 'A' is not in the alphabet (a..c -)"),
+    (ABC + 'rule r = a" "b', 2, "the letter ' ' is not in the alphabet (a..c -)"),
+    (ABC + "rule r = -(a..c)*", 2, "a pattern has no ranges: expected each letter by itself, as in (a|b|c), found 'a..c'"),
+    (ABC + 'rule r = "a..c"', 2, "the letter '.' is not in the alphabet (a..c -)"),
+    (ABC + "rule r = a, b", 2, "expected letters, | * ( and ), found ',': a comma that is a letter stands in quotes"),
+    ('alphabet a ","\nrule r = a,a', 2, "expected letters, | * ( and ), found ',': a comma that is a letter stands in quotes"),
+    ('alphabet a |\nrule r = a"|"', 2, "'|' is a sign of patterns, and no pattern can name it as a letter: expected an automaton by moves for such a rule"),
+    (ABC + 'rule r = "(a"', 2, "'(' is a sign of patterns, and no pattern can name it as a letter: expected an automaton by moves for such a rule"),
+    (ABC + 'rule r = "a', 2, 'a quote is not closed: expected another "'),
+    (
+        LETTERS64 + "\nrule r = M*N",
+        2,
+        "'N' is letter 40 of the alphabet, and no pattern can name it: expected the letters of rules among the first 39, or an automaton by moves",
+    ),
+    (ABC + f"rule r = {'a' * 64}", 2, "the pattern has 64 letters and signs: expected 63 at most"),
+    (ABC + f"rule r = {'(a | b) ' * 13}", 2, "the pattern has 65 letters and signs: expected 63 at most"),
+    (ABC + "rule r = a\n\nrule r = b", 4, "'r' is declared twice: it is a rule in line 2"),
+    (
+        ABC + "".join(f"automaton d{i}\nstate q any to q\n" for i in range(7)) + "rule d7 = a\nrule d8 = a",
+        17,
+        "'d8' is one too many: expected 8 automata at most, rules included",
+    ),
+    (ABC + "rule r = a\nstate q any to q", 3, "a state belongs under an 'automaton' line"),
+    (ABC + X + "rule r = a\neq x r", 4, "'r' is a rule (line 3): expected a string here (eq string string)"),
+    (ABC + X + "rule r = a\nregular x s", 4, "no automaton is called 's' (declared: r)"),
+    (ABC + "rule r = *\neq x y", 3, "no string is called 'x' (declared: none)"),  # whether this is a pattern is not asked
     (ABC + "state q any to q", 2, "a state belongs under an 'automaton' line"),
     (ABC + D + "state q any to q\nnumber n in 1\naccepting r any to q", 5, "a state belongs under an 'automaton' line"),
     (ABC + D + X, 2, "automaton 'd' has no state: expected 'state' or 'accepting' lines under it"),
@@ -146,6 +180,17 @@ BROKEN = [
     (ABC + X + N + "len x n n", 4, "expected the end of the line, found 'n'"),
     (ABC + X + N + "len x n\n" * 65, 68, "'len' is one constraint too many: expected 64 at most"),
     (b"alphabet a\n# \xff", 2, "a byte is not UTF-8: expected plain text"),
+]
+
+# (the letters of an alphabet, a pattern in them, the same in the library's letters, which stand for the symbols 0, 1 and so on)
+PATTERNS = [
+    ("ab", "(a|b)*a", "(0|1)*0"),
+    ("ba", " ( a | b )* a  # a comment", "(1|0)*1"),
+    ("ab", "", ""),
+    ("ab", '""', ""),
+    ("a.#", 'a..a("#"|)', "0110(2|)"),
+    ("a|", "a|a", "0|0"),
+    ('ABCDEFGHIJKLMNOPQRSTUVWXYZ ,"\\#0123456789', 'ABCDEFGHIJKLMNOPQRSTUVWXYZ" ,\\"\\\\#"01234567', "0123456789.abcdefghijklmnopqrstuvwxyz-/"),
 ]
 
 UNFIT = "the file has 3 strings, the text 2: expected the text that it was packed from"  # P14's file, the text NAMED
@@ -252,6 +297,14 @@ def texts():
 def errors():
     said = [(written, f"text:{line}: {message}", complaint(lambda: read(written), textform.Wrong)) for written, line, message in BROKEN]
     return [f"{written!r}: {got}" for written, expected, got in said if got != expected]
+
+
+def translations():
+    wrong = []
+    for letters, written, expected in PATTERNS:
+        line = Line("text", 1, written)
+        wrong += [] if patterns.translated(line, line.rest(), letters.index) == expected else [f"{written!r} is not put into the library's letters"]
+    return wrong
 
 
 def accepted():
@@ -362,11 +415,12 @@ def commands():
 
 def main():
     files = accepted()
-    wrong = texts() + errors() + round_trips(files) + named_trips() + refusals() + answers() + commands()
+    wrong = texts() + errors() + translations() + round_trips(files) + named_trips() + refusals() + answers() + commands()
     for line in wrong:
         print("text: " + line)
     if not wrong:
-        counts = ((TEXTS + SHOWN, "texts"), (BROKEN, "broken texts"), (files, "files shown and packed again"), (EDGES, "edges of Read"), (ANSWERS, "answers"))
+        counts = ((TEXTS + SHOWN, "texts"), (BROKEN, "broken texts"), (PATTERNS, "patterns put into the library's letters"))
+        counts += ((files, "files shown and packed again"), (EDGES, "edges of Read"), (ANSWERS, "answers"))
         print("text: " + ", ".join(f"{len(cases)} {name}" for cases, name in counts) + " stand")
     return 1 if wrong else 0
 

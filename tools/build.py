@@ -1,18 +1,18 @@
-# Proves what the program rests on, and builds it: target/bin/clash. `python3 tools/build.py`, with `rt` on the path.
-# It shows a line for each crate; all that the prover says is in target/build.log. The exit status is 0 if the program stands, else 4, as tools/problem.py has
-# it for what could not be run.
+# Proves what the programs rest on, and builds them: target/bin/clash, which answers problems, and target/bin/rule, which makes automata of patterns.
+# `python3 tools/build.py`, with `rt` on the path. It shows a line for each crate; all that the prover says is in target/build.log. The exit status is 0 if the
+# programs stand, else 4, as tools/problem.py has it for what could not be run.
 import subprocess
 import sys
 
-from solving import PROGRAM, ROOT, TARGET
+from solving import ROOT, TARGET
 
 LOG = TARGET / "build.log"
-COMMAND = ["rt", "check", "clash"]
+COMMAND = ["rt", "check", "clash", "rule"]
 TROUBLE = 4
 
 
 def proved(log):
-    """Whether the crates are proved and the program is built; the lines of `rt` itself are shown as they come."""
+    """Whether the crates are proved and the programs are built; the lines of `rt` itself are shown as they come."""
     with subprocess.Popen(COMMAND, cwd=ROOT, stdout=subprocess.PIPE, stderr=subprocess.STDOUT) as prover:
         for line in prover.stdout:
             log.write(line)
@@ -31,7 +31,7 @@ def main():
         print(f"{error.filename}: {error.strerror}", file=sys.stderr)
         return TROUBLE
     if not good:
-        print(f"{PROGRAM} was not built: {LOG} has all that the prover said", file=sys.stderr)
+        print(f"not every program was built: {LOG} has all that the prover said", file=sys.stderr)
         return TROUBLE
     return 0
 

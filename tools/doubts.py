@@ -1,6 +1,8 @@
 # What in a text lets a `none` say nothing, or shows that a constraint was forgotten: a domain that holds nothing, lengths that can never be, an automaton that
-# accepts nothing, a name that no constraint names. It looks at each declaration by itself and solves nothing; templates.py has the doubts that need the solver.
+# accepts nothing, what looks like a range in a pattern, a name that no constraint names. It looks at each declaration by itself and solves nothing;
+# templates.py has the doubts that need the solver.
 from packing import LIMIT
+from patterns import ranges
 from wording import number_set
 
 
@@ -36,8 +38,15 @@ def domain_doubts(text):
         if word == 0:
             yield text.declared[name], f"number '{name}' has no value"
     for name, automaton in text.problem.automata.items():
-        if not automaton.accepting & reached(automaton):
+        # Every pattern stands for some string, so that no rule accepts nothing.
+        if name not in text.rules and not automaton.accepting & reached(automaton):
             yield text.declared[name], f"automaton '{name}' accepts nothing: no accepting state can be reached from '{automaton.states[0]}'"
+
+
+def range_doubts(text):
+    for name, tokens in text.rules.items():
+        for written in ranges(tokens):
+            yield text.declared[name], f"rule '{name}' has {written}, which is no range in a pattern, but {written[0]}, two dots and {written[3]}"
 
 
 def unused_doubts(text):
@@ -45,9 +54,9 @@ def unused_doubts(text):
     for noun in ("string", "number", "automaton"):
         for name in text.problem.named(noun):
             if name not in named:
-                yield text.declared[name], f"{noun} '{name}' is in no constraint"
+                yield text.declared[name], f"{'rule' if name in text.rules else noun} '{name}' is in no constraint"
 
 
 def doubts(text):
     """(line, what is doubtful) of a text, in the order of its lines."""
-    return sorted([*domain_doubts(text), *unused_doubts(text)], key=lambda doubt: doubt[0])
+    return sorted([*domain_doubts(text), *range_doubts(text), *unused_doubts(text)], key=lambda doubt: doubt[0])

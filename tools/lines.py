@@ -73,6 +73,11 @@ class Line:
         self.next += 1
         return self.tokens[self.next - 1]
 
+    def rest(self):
+        """Takes all tokens that are left."""
+        tokens, self.next = self.tokens[self.next :], len(self.tokens)
+        return tokens
+
     def end(self):
         if self.more():
             raise self.wrong(f"expected the end of the line, found {self.seen()}")

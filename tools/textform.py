@@ -2,12 +2,13 @@
 # Whatever would make a file that Read refuses is an error here, with its line; so is whatever has no meaning.
 from typing import NamedTuple
 
+import patterns
 from lines import Line, Wrong
 from packing import EVERY, KINDS, LIMIT, MOST, Automaton, Problem, repeats
 from wording import letters_shown
 
-A = {"string": "a string", "number": "a number", "automaton": "an automaton"}
-PLURAL = {"string": "strings", "number": "numbers", "automaton": "automata"}
+A = {"string": "a string", "number": "a number", "automaton": "an automaton", "rule": "a rule"}
+PLURAL = {"string": "strings", "number": "numbers", "automaton": "automata", "rule": "automata"}  # a rule counts as the automaton that it stands for
 
 
 class Draft(NamedTuple):
@@ -18,6 +19,14 @@ class Draft(NamedTuple):
     states: dict  # name to (line, whether it accepts, the next state's name for each symbol)
 
 
+class Rule(NamedTuple):
+    """A rule whose automaton is not made."""
+
+    line: Line
+    tokens: list  # its pattern as it is written
+    pattern: str  # the same in the library's letters
+
+
 class Text(NamedTuple):
     """A problem, and where its text says what; a line is its number from 1."""
 
@@ -25,14 +34,16 @@ class Text(NamedTuple):
     declared: dict  # name of a string, number or automaton to its line
     places: dict  # (name of a string, place) to the `at` line that gives this place its letters
     constraints: list  # the line of each constraint
+    rules: dict  # name of each automaton that is a rule to the tokens of its pattern
 
 
 class Reader:
     def __init__(self):
         self.problem = Problem("", {}, {}, {}, [])
-        self.declared = {}  # name of a string, number or automaton to (what it is, its line)
+        self.declared = {}  # name of a string, number, automaton or rule to (what it is, its line)
         self.above = None  # the string that `at` lines add to
         self.places = {}  # (name of a string, place) to its `at` line
+        self.rules = {}  # name to Rule
         self.draft = None  # the automaton that `state` and `accepting` lines add to
         self.constraints = []  # (line, kind, names) until every name is declared
 
@@ -80,9 +91,10 @@ class Reader:
         if name in self.declared:
             other, number = self.declared[name]
             raise line.wrong(f"'{name}' is declared twice: it is {A[other]} in line {number}")
-        most = MOST[PLURAL[noun]]
-        if [other for other, _ in self.declared.values()].count(noun) == most:
-            raise line.wrong(f"'{name}' is one too many: expected {most} {PLURAL[noun]} at most")
+        sort = PLURAL[noun]
+        if [PLURAL[other] for other, _ in self.declared.values()].count(sort) == MOST[sort]:
+            included = ", rules included" if sort == "automata" else ""
+            raise line.wrong(f"'{name}' is one too many: expected {MOST[sort]} {sort} at most{included}")
         self.declared[name] = noun, line.number
         return name
 
@@ -125,6 +137,16 @@ class Reader:
         if line.more() and not line.sees("in"):
             raise line.wrong(f"expected 'in' and the values, found {line.seen()}")
         self.problem.numbers[name] = line.numbers("a value", 0) if line.took("in") else EVERY
+
+    def rule(self, line):
+        name = self.declare(line, "rule")
+        if not line.took("="):
+            raise line.wrong(f"expected '=' and a pattern, found {line.seen()}")
+        tokens = line.rest()
+        if patterns.ranges(tokens) and "." not in self.problem.letters:
+            raise line.wrong(f"a pattern has no ranges: expected each letter by itself, as in (a|b|c), found '{patterns.ranges(tokens)[0]}'")
+        self.rules[name] = Rule(line, tokens, patterns.translated(line, tokens, lambda letter: self.symbol(line, letter)))
+        self.problem.automata[name] = None  # keeps its position; `finish` makes the automaton
 
     def automaton(self, line):
         self.draft = Draft(line, self.declare(line, "automaton"), {})
@@ -202,20 +224,24 @@ class Reader:
             raise Wrong(path, 1, "there is no alphabet: expected 'alphabet' and its letters")
         self.finish_automaton()
         self.problem.constraints = [self.resolved(*constraint) for constraint in self.constraints]
+        # At the end, so that nothing is asked for a text that is broken anyway.
+        for name, rule in self.rules.items():
+            self.problem.automata[name] = patterns.automaton(rule.line, len(self.problem.letters), rule.pattern)
         declared = {name: number for name, (_, number) in self.declared.items()}
-        return Text(self.problem, declared, self.places, [line.number for line, _, _ in self.constraints])
+        constraints = [line.number for line, _, _ in self.constraints]
+        return Text(self.problem, declared, self.places, constraints, {name: rule.tokens for name, rule in self.rules.items()})
 
 
 def constraint_reader(kind):
     return lambda reader, line: reader.constraint(line, kind)
 
 
-STATEMENTS = {word: getattr(Reader, word) for word in ("alphabet", "string", "at", "number", "automaton", "state", "accepting")}
+STATEMENTS = {word: getattr(Reader, word) for word in ("alphabet", "string", "at", "number", "rule", "automaton", "state", "accepting")}
 STATEMENTS.update({word: constraint_reader(i + 1) for i, (word, _) in enumerate(KINDS)})
 
 
 def read_text(path, content):
-    """A text, given as bytes; the path is named in errors. Raises Wrong."""
+    """A text, given as bytes; the path is named in errors. Raises Wrong, and Failed where a rule's automaton cannot be made."""
     try:
         text = content.decode("utf-8-sig")
     except UnicodeDecodeError as error:
@@ -229,5 +255,5 @@ def read_text(path, content):
 
 
 def read(path, content):
-    """The problem in a text. Raises Wrong."""
+    """The problem in a text. Raises Wrong and Failed."""
     return read_text(path, content).problem

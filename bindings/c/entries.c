@@ -1,5 +1,6 @@
-/* Every entry of cobleskeg.h on P14 of the scope paper: an accepted call with the answer that the paper gives, and calls with each refusal that the entry
- * has. Whatever is lent is looked at afterwards, the results behind pointers too. It prints a line for each failure, and a last one with the count of checks.
+/* Every entry of cobleskeg.h on P14 of the scope paper, and on patterns: an accepted call with the answer that the papers give, and calls with each refusal that
+ * the entry has. Whatever is lent is looked at afterwards, the results behind pointers too. It prints a line for each failure, and a last one with the count
+ * of checks.
  */
 #include <cobleskeg.h>
 #include <stdio.h>
@@ -11,7 +12,8 @@ enum { SPARE = 3, MARK = 7 };
 /* Lent to the entries. Words beyond those that are lent stay marked. */
 static uint8_t file[SIZE];
 static uint64_t table[WORDS + SPARE], room[ROOM + SPARE];
-static size_t symbols, strings, numbers, automata, constraints;
+static uint8_t buffer[COBLESKEG_LARGEST_AUTOMATON + SPARE];
+static size_t symbols, strings, numbers, automata, constraints, written;
 static uint32_t struck, rounds, nodes;
 static uint8_t every_value, outcome;
 
@@ -202,6 +204,44 @@ static void refused_buffers(void)
     check(untouched(4), "nothing is written", 10);
 }
 
+/* What a text gives, in a buffer of so many bytes. */
+static uint8_t compile_it(const char *text, size_t size, size_t k, size_t bytes)
+{
+    memset(buffer, MARK, sizeof buffer);
+    written = MARK;
+    return cobleskeg_compile((const uint8_t *)text, size, k, buffer, bytes, &written);
+}
+
+static int marked_from(size_t first)
+{
+    for (size_t i = first; i < sizeof buffer; i++)
+        if (buffer[i] != MARK)
+            return 0;
+    return 1;
+}
+
+/* `(0|1)*0` has the start, the 0 in the group with the last one, and the 1; 30 letters side by side have 32 states. */
+static void patterns(void)
+{
+    static const uint8_t wanted[11] = {3, 2, 0, 0, 0, 1, 2, 1, 2, 1, 2};
+    static const struct {
+        const char *text;
+        size_t size, k, bytes;
+        uint8_t refusal;
+    } cases[] = {
+        {"0**", 3, 0, 0, 14}, {"(0", 2, 2, 11, 14},  {"0", 1, 0, 0, 15}, {"0", 1, 65, 0, 15},
+        {"/", 1, 38, 0, 15},  {"0000000000000000000000000000000", 31, 1, 0, 16}, {"(0|1)*0", 7, 2, 10, 17},
+    };
+    check(compile_it("(0|1)*0", 7, 2, 11) == 0 && written == 11 && memcmp(buffer, wanted, 11) == 0 && marked_from(11), "compile writes an automaton", 0);
+    check(compile_it("(0|1)*0", 7, 2, 20) == 0 && written == 11 && memcmp(buffer, wanted, 11) == 0 && marked_from(11), "compile leaves what is beyond", 0);
+    check(compile_it("000000000000000000000000000000", 30, 64, COBLESKEG_LARGEST_AUTOMATON) == 0 && written == COBLESKEG_LARGEST_AUTOMATON && buffer[0] == 32 &&
+              marked_from(COBLESKEG_LARGEST_AUTOMATON),
+          "the largest automaton fits", 0);
+    for (size_t i = 0; i < sizeof cases / sizeof *cases; i++)
+        check(compile_it(cases[i].text, cases[i].size, cases[i].k, cases[i].bytes) == cases[i].refusal && written == MARK && marked_from(0),
+              "compile refuses, and writes nothing", cases[i].refusal);
+}
+
 int main(void)
 {
     check(cobleskeg_version() == COBLESKEG_VERSION, "the archive has the header's version", 0);
@@ -210,6 +250,7 @@ int main(void)
     searched();
     refused_files();
     refused_buffers();
+    patterns();
     printf("entries: %u checks, %u failed\n", checks, failures);
     return failures != 0;
 }

@@ -1,4 +1,4 @@
-//! The functions of the Rust crate over the archive, each once on a file.
+//! The functions of the Rust crate over the archive, each once on a file or on the text of a pattern.
 
 use crate::disagreement::{Compared, Disagreement};
 use crate::random::Random;
@@ -7,8 +7,8 @@ use crate::tally::Tally;
 use cobleskeg::{Answer, Counts, Outcome, Refusal, Settled, SETTLE};
 use std::fmt::Debug;
 
-/// What a function of the crate answers, and the table that it leaves.
-type Given<T> = (Result<T, u8>, Vec<u64>);
+/// What a function of the crate answers, and the table or the buffer that it leaves.
+type Given<T, E = u64> = (Result<T, u8>, Vec<E>);
 
 /// Every function but `solve`, on this table.
 pub fn functions(file: &[u8], random: &mut Random, table: &[u64]) -> Compared<()> {
@@ -27,6 +27,18 @@ pub fn functions(file: &[u8], random: &mut Random, table: &[u64]) -> Compared<()
         Ok(())
     });
     same("perform", &ours, &theirs)
+}
+
+/// The automaton of a pattern, into a buffer of so many bytes.
+pub fn compile(text: &[u8], symbols: usize, room: usize, random: &mut Random) -> Compared<()> {
+    let buffer: Vec<u8> = (0..room).map(|_| random.byte()).collect();
+    let ours = on(&buffer, |lent| numbered(cobleskeg::compile(text, symbols, lent)));
+    let theirs = on(&buffer, |lent| {
+        let bytes = second::pattern::compile(text, symbols, room)?;
+        lent[..bytes.len()].copy_from_slice(&bytes);
+        Ok(bytes.len())
+    });
+    same("compile", &ours, &theirs)
 }
 
 /// The answer in strings and numbers, for a file that is not refused.
@@ -54,9 +66,9 @@ fn same<T: PartialEq + Debug>(call: &str, ours: &T, theirs: &T) -> Compared<()> 
     Err(Disagreement { call: format!("{call}, by the Rust crate"), ours: format!("{ours:?}"), theirs: format!("{theirs:?}"), word: None })
 }
 
-/// Calls on a copy of the table.
-fn on<T>(table: &[u64], call: impl Fn(&mut [u64]) -> Result<T, u8>) -> Given<T> {
-    let mut lent = table.to_vec();
+/// Calls on a copy of the table or the buffer.
+fn on<T, E: Clone>(elements: &[E], call: impl Fn(&mut [E]) -> Result<T, u8>) -> Given<T, E> {
+    let mut lent = elements.to_vec();
     let answer = call(&mut lent);
     (answer, lent)
 }

@@ -1,6 +1,6 @@
 //! One call of the library and of the second solver: answers, results behind pointers and every word of every buffer must be the same.
 
-use crate::disagreement::{Compared, Disagreement};
+use crate::disagreement::{self, Compared};
 use crate::ended;
 use crate::entries;
 use crate::lent::{Lent, Memory};
@@ -165,27 +165,9 @@ impl Calls<'_> {
 /// Refuses two answers that differ, and results or buffers that do. `refused` is the second solver's refusal.
 fn differing(call: impl Fn() -> String, ours: u8, refused: Option<u8>, results: &[Held], buffers: &[&Lent]) -> Compared<()> {
     let difference = buffers.iter().enumerate().find_map(|(at, lent)| lent.difference().map(|word| (at, word)));
-    let theirs = refused.unwrap_or(0);
-    if ours == theirs && difference.is_none() && results.iter().all(|held| held.ours == held.theirs) {
-        return Ok(());
-    }
     let buffer = |at: usize| if at == 0 { "table" } else { "room" };
     let word = difference.map(|(at, (place, ours, theirs))| format!("word {place} of the {}: {ours:#x}, {theirs:#x}", buffer(at)));
-    let (ours, theirs) = (answer(ours, results, |held| held.ours), answer(theirs, results, |held| held.theirs));
-    Err(Disagreement { call: call(), ours, theirs, word })
-}
-
-/// An answer with the results behind it, neighbours included where they are not the marks that they were.
-fn answer(number: u8, results: &[Held], side: impl Fn(&Held) -> [u64; 3]) -> String {
-    let mut text = if number == 0 { "accepted".into() } else { format!("refused {number}") };
-    for held in results {
-        let [before, result, behind] = side(held);
-        text += &format!(", {} {result}", held.name);
-        if [held.ours[0], held.ours[2]] != [held.theirs[0], held.theirs[2]] {
-            text += &format!(" between {before} and {behind}");
-        }
-    }
-    text
+    disagreement::same(call, ours, refused, results, word)
 }
 
 /// The kind of a constraint, as files number it.

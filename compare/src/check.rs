@@ -18,7 +18,7 @@ impl Case {
     /// All calls, and at times the program.
     pub fn compare(&mut self, program: Option<&Path>, memory: &Memory, tally: &mut Tally) -> Compared<()> {
         tally.kinds[self.kind as usize] += 1;
-        let file = memory.file(&mut self.random, &self.file);
+        let file = memory.bytes(&mut self.random, &self.file);
         let (random, relations, try_choices) = (&mut self.random, Vec::new(), self.measure.try_choices);
         let calls = Calls { file, memory, random, tally, relations, try_choices };
         let outcome = Drive { calls, measure: self.measure, known: self.known.as_ref() }.run()?;

@@ -1,4 +1,4 @@
-//! Says in which case and call the library ended the process, for instance by touching a page that nobody may touch.
+//! Says in which case or pattern and in which call the library ended the process, for instance by touching a page that nobody may touch.
 
 use std::cell::Cell;
 use std::sync::atomic::{AtomicU64, Ordering};
@@ -7,20 +7,21 @@ use std::sync::atomic::{AtomicU64, Ordering};
 #[cfg_attr(not(unix), allow(dead_code))]
 #[derive(Clone, Copy)]
 struct At {
-    case: u64,
+    what: &'static str,
+    index: u64,
     kind: &'static str,
     entry: &'static str,
 }
 
 thread_local! {
-    static AT: Cell<At> = const { Cell::new(At { case: 0, kind: "", entry: "" }) };
+    static AT: Cell<At> = const { Cell::new(At { what: "", index: 0, kind: "", entry: "" }) };
 }
 
 static SEED: AtomicU64 = AtomicU64::new(0);
 
-/// This thread is at this case now.
-pub fn at_case(case: u64, kind: &'static str) {
-    AT.set(At { case, kind, entry: "none" });
+/// This thread is at this case or pattern now.
+pub fn at(what: &'static str, index: u64, kind: &'static str) {
+    AT.set(At { what, index, kind, entry: "none" });
 }
 
 /// This thread calls this entry now.
@@ -60,8 +61,8 @@ mod signals {
     extern "C" fn report(number: i32) {
         let mut text = [0u8; 400];
         let mut left = &mut text[..];
-        let (At { case, kind, entry }, seed) = (AT.get(), SEED.load(Ordering::Relaxed));
-        let _full = write!(left, "compare: case {case} of seed {seed} disagrees\n  kind:          {kind}\n  call:          {entry}\n")
+        let (At { what, index, kind, entry }, seed) = (AT.get(), SEED.load(Ordering::Relaxed));
+        let _full = write!(left, "compare: {what} {index} of seed {seed} disagrees\n  kind:          {kind}\n  call:          {entry}\n")
             .and_then(|()| write!(left, "  proved:        ends the process by signal {number}\n"));
         let count = 400 - left.len();
         unsafe {

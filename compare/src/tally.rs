@@ -1,6 +1,7 @@
 //! What has been compared, and whether anything never came up.
 
 use crate::kind::Kind;
+use crate::patterns::Texts;
 use crate::trees::{Shape, BUSHY, DEEP, FAR};
 use second::file::LARGEST_FILE;
 use second::Outcome;
@@ -49,7 +50,10 @@ const EVENTS: [&str; 14] = [
 
 const MAXIMA: [&str; 6] = ["found", "none", "budget below 2^32 - 1", "rounds", "calls in a list", "bytes of a file"];
 
-/// Counts of cases and of calls. Every call of an entry counts once, by its answer too.
+/// Groups of counts, each count with its name.
+pub type Groups = Vec<(&'static str, Vec<(String, u64)>)>;
+
+/// Counts of cases and of calls, and of texts. Every call of an entry counts once, by its answer too.
 #[derive(Clone, Default)]
 pub struct Tally {
     /// Cases by their kind.
@@ -69,6 +73,7 @@ pub struct Tally {
     pub tried: u64,
     /// Runs of the program.
     pub runs: u64,
+    pub texts: Texts,
 }
 
 impl Tally {
@@ -163,10 +168,11 @@ impl Tally {
         self.maxima.iter_mut().zip(&other.maxima).for_each(|(most, value)| *most = (*most).max(*value));
         self.tried += other.tried;
         self.runs += other.runs;
+        self.texts.add(&other.texts);
     }
 
     /// Every count with its name, group by group; those of the program only where there is a program.
-    fn groups(&self, program: bool) -> Vec<(&'static str, Vec<(String, u64)>)> {
+    fn groups(&self, program: bool) -> Groups {
         let refusals: Vec<u8> = (1..=13).collect();
         let events = if program { EVENTS.len() } else { Event::Pieces as usize };
         vec![
@@ -181,30 +187,47 @@ impl Tally {
         ]
     }
 
-    /// All counts in one line.
+    /// All counts of cases in one line.
     pub fn line(&self, program: bool) -> String {
         let calls: u64 = self.entries.iter().sum();
-        let mut parts = vec![format!("{} cases, {calls} calls of the library, {} runs of the program agree", self.kinds.iter().sum::<u64>(), self.runs)];
-        for (group, counts) in self.groups(program) {
-            let counts: Vec<String> = counts.iter().map(|(name, count)| format!("{name} {count}")).collect();
-            parts.push(format!("{group}: {}", counts.join(", ")));
-        }
-        parts.join("; ")
+        let cases = self.kinds.iter().sum::<u64>();
+        format!("{cases} cases, {calls} calls of the library, {} runs of the program agree; {}", self.runs, listed(&self.groups(program)))
     }
 
-    /// What never came up; the program's runs only where there is a program.
+    /// All counts of texts in one line.
+    pub fn line_of_texts(&self) -> String {
+        format!("{} patterns agree; {}", self.texts.count(), listed(&self.texts.groups()))
+    }
+
+    /// What never came up in cases; the program's runs only where there is a program.
     pub fn missing(&self, program: bool) -> Vec<String> {
-        let never = |group: &'static str| move |(name, count): &(String, u64)| (*count == 0).then(|| format!("{group}: {name}"));
-        let mut missing: Vec<String> = self.groups(program).iter().flat_map(|(group, counts)| counts.iter().filter_map(never(group))).collect();
+        let mut missing = never(&self.groups(program));
         if program && self.runs == 0 {
             missing.push("runs of the program".into());
         }
         missing
     }
+
+    /// What never came up in texts.
+    pub fn missing_in_texts(&self) -> Vec<String> {
+        never(&self.texts.groups()).into_iter().map(|name| format!("patterns: {name}")).collect()
+    }
 }
 
-fn named(names: &[impl Display], counts: &[u64]) -> Vec<(String, u64)> {
+pub fn named(names: &[impl Display], counts: &[u64]) -> Vec<(String, u64)> {
     names.iter().map(ToString::to_string).zip(counts.iter().copied()).collect()
+}
+
+/// All groups in one line.
+fn listed(groups: &Groups) -> String {
+    let counted = |counts: &[(String, u64)]| counts.iter().map(|(name, count)| format!("{name} {count}")).collect::<Vec<String>>().join(", ");
+    groups.iter().map(|(group, counts)| format!("{group}: {}", counted(counts))).collect::<Vec<String>>().join("; ")
+}
+
+/// The names, each with its group, whose count is 0.
+fn never(groups: &Groups) -> Vec<String> {
+    let none = |group: &'static str| move |(name, count): &(String, u64)| (*count == 0).then(|| format!("{group}: {name}"));
+    groups.iter().flat_map(|(group, counts)| counts.iter().filter_map(none(group))).collect()
 }
 
 #[cfg(test)]
@@ -225,6 +248,11 @@ mod tests {
         }
         for name in ["refused: 13", "far out: lists beyond 400 calls", "greatest: rounds"] {
             assert!(!missing.contains(&name.to_string()), "{name} in {missing:?}");
+        }
+        tally.texts.string(false);
+        let in_texts = tally.missing_in_texts();
+        for (name, is_missing) in [("patterns: strings: tried", false), ("patterns: strings: accepted", true), ("patterns: answers: refused 17", true)] {
+            assert_eq!(in_texts.contains(&name.to_string()), is_missing, "{name} in {in_texts:?}");
         }
     }
 

@@ -5,6 +5,7 @@ pub mod domain;
 pub mod enumerate;
 pub mod file;
 pub mod header;
+pub mod pattern;
 pub mod plain;
 pub mod relations;
 pub mod search;

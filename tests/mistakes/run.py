@@ -17,11 +17,11 @@ BUILT = TARGET / "mistakes"
 ARCHIVE = TARGET / "staticlib" / "libcobleskeg_c.a"
 PROGRAM = TARGET / "bin" / "clash"
 MADE_BY = {ARCHIVE: "rt staticlib cobleskeg_c", PROGRAM: "rt check clash"}
-ENTRIES = ("read", "unpack", "step", "settle", "search", "perform")
-SOURCES = ("standin", "reading", "steps", "rounds", "searches")
+ENTRIES = ("read", "unpack", "step", "settle", "search", "perform", "compile")
+SOURCES = ("standin", "reading", "steps", "rounds", "searches", "patterns", "automata")
 COMPARE = BUILT / "cargo" / "release" / "compare"
-CASES = 50000  # of the short run
-SOUND_CASES = 5000  # enough that everything comes up
+CASES, PATTERNS = 50000, 20000  # of the short run
+SOUND_CASES, SOUND_PATTERNS = 5000, 2000  # enough that everything comes up
 NONE = "none"
 
 
@@ -58,24 +58,27 @@ def build():
     run("cargo", "build", "--release", "--offline", folder=ROOT / "compare", CARGO_TARGET_DIR=str(BUILT / "cargo"), COBLESKEG_ARCHIVE_DIR=str(BUILT))
 
 
-def compared(name, cases=CASES):
-    """What the comparison prints with this mistake, and its exit status. One thread, so that the case that reports it is always the same."""
+def compared(name):
+    """What the comparison prints with this mistake, and its exit status. One thread, so that the case that reports it is always the same. A mistake of Compile
+    shows in patterns alone, and any other in cases."""
+    cases, patterns = (SOUND_CASES, SOUND_PATTERNS) if name == NONE else (0, PATTERNS) if name.startswith("compile_") else (CASES, 0)
     program = BUILT / "program" if name.startswith("program_") or name == NONE else PROGRAM
     folder = BUILT / "runs" / name  # the comparison leaves the file of a failure below the folder that it runs in
     folder.mkdir(parents=True, exist_ok=True)
-    command = [COMPARE, "--cases", cases, "--seed", 1, "--threads", 1, "--program", program]
+    command = [COMPARE, "--cases", cases, "--patterns", patterns, "--seed", 1, "--threads", 1, "--program", program]
     environment = dict(os.environ, COBLESKEG_MISTAKE=name)
     done = subprocess.run([str(word) for word in command], cwd=folder, env=environment, stdout=subprocess.PIPE, stderr=subprocess.STDOUT, text=True)
     return done.stdout, done.returncode
 
 
 def reported(printed, status):
-    """The case, its kind and the call that a run reported, or nothing."""
-    case = re.search(r"^compare: case (\d+) of seed 1 disagrees\n  kind: +(.*)\n  call: +(.*)\n", printed, re.M)
+    """The case or pattern, its kind and the call that a run reported, or nothing."""
+    case = re.search(r"^compare: (case|pattern) (\d+) of seed 1 disagrees\n  kind: +(.*)\n  call: +(.*)\n", printed, re.M)
     if status != 1 or not case:
         return None
-    call = re.split(r"[ ,]", case[3])[0]
-    return int(case[1]), case[2], "ends the process in " + call if "ends the process" in printed else call
+    call = re.split(r"[ ,]", case[4])[0]
+    number = f"{'pattern ' if case[1] == 'pattern' else ''}{int(case[2]):,}"
+    return number, case[3], "ends the process in " + call if "ends the process" in printed else call
 
 
 def line(name):
@@ -85,9 +88,10 @@ def line(name):
     found = reported(printed, status)
     if not found:
         return f"| {name} | NOT REPORTED, exit status {status} | | |", False
-    case, kind, call = found
-    print(f"mistakes: {name}: case {case}, after {time.monotonic() - start:.1f} s", file=sys.stderr, flush=True)
-    return f"| {mistakes()[name]} | {call} | {kind} | {case:,} |", True
+    number, kind, call = found
+    print(f"mistakes: {name}: {number}, after {time.monotonic() - start:.1f} s", file=sys.stderr, flush=True)
+    what = mistakes()[name].replace("|", r"\|")
+    return f"| {what} | {call} | {kind} | {number} |", True
 
 
 def main():
@@ -98,7 +102,7 @@ def main():
         if missing:
             raise Failure("\n".join(missing))
         build()
-        printed, status = compared(NONE, SOUND_CASES)
+        printed, status = compared(NONE)
         if status != 0:
             raise Failure(f"without a mistake the stand-in is reported:\n{printed}")
         with ThreadPoolExecutor(os.cpu_count()) as pool:
@@ -106,7 +110,7 @@ def main():
     except (Failure, OSError) as failure:
         print(f"mistakes: {failure}")
         return 1
-    print("| mistake | reported by | kind of case | case |\n|---|---|---|---|")
+    print("| mistake | reported by | kind of case or text | case, or pattern |\n|---|---|---|---|")
     print("\n".join(text for text, _ in lines))
     unseen = [name for name, (_, seen) in zip(names, lines) if not seen]
     print(f"mistakes: {len(names) - len(unseen)} of {len(names)} reported" + (f"; not: {', '.join(unseen)}" if unseen else ""))

@@ -33,5 +33,6 @@ uint8_t proved_settle(const uint8_t *file, size_t size, uint64_t *table, size_t 
 uint8_t proved_search(const uint8_t *file, size_t size, uint32_t budget, uint64_t *room, size_t room_words, uint64_t *table, size_t words,
                       uint8_t *outcome, uint32_t *nodes);
 void proved_perform(const uint8_t *file, size_t size, const uint32_t *list, size_t calls, uint64_t *table, size_t words);
+uint8_t proved_compile(const uint8_t *text, size_t size, size_t symbols, uint8_t *buffer, size_t room, size_t *written);
 
 #endif

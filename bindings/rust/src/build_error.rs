@@ -1,5 +1,6 @@
 //! What a builder does not take.
 
+use crate::Refusal;
 use std::error::Error;
 use std::fmt;
 
@@ -32,6 +33,8 @@ pub enum BuildError {
     Next { state: usize, symbol: usize, next: u8 },
     /// An accepting state that is no state of its automaton.
     Accepting(u8),
+    /// The refusal, 14 to 16, of a text that gives no automaton.
+    Pattern(Refusal),
     /// A handle that another builder made.
     Foreign,
     /// A constraint that names one string twice.
@@ -54,6 +57,7 @@ impl fmt::Display for BuildError {
             BuildError::Moves { state, moves } => write!(to, "state {state} has a move for each symbol of the alphabet, not {moves}"),
             BuildError::Next { state, symbol, next } => write!(to, "symbol {symbol} leads from state {state} to {next}, which is no state"),
             BuildError::Accepting(state) => write!(to, "state {state} is to accept, and is no state"),
+            BuildError::Pattern(refusal) => write!(to, "a text gives no automaton: {refusal}"),
             BuildError::Foreign => write!(to, "a constraint names a variable or an automaton of another builder"),
             BuildError::Twice => write!(to, "a constraint names one string twice"),
         }

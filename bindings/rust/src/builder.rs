@@ -1,6 +1,6 @@
 //! Problem files, built part by part.
 
-use crate::{BuildError, Row, Values};
+use crate::{compile, BuildError, Row, Values, LARGEST_AUTOMATON};
 use std::sync::atomic::{AtomicU64, Ordering};
 
 const MOST_SYMBOLS: usize = 64;
@@ -132,6 +132,15 @@ impl Builder {
         bytes.extend(&accepting.word().to_le_bytes()[..4]);
         bytes.extend(moves.iter().flat_map(|row| row.as_ref()));
         self.automata.push(bytes);
+        Ok(AutomatonHandle(handle))
+    }
+
+    /// The automaton of a pattern, as [`compile`] makes it. [`BuildError::Pattern`] where it is refused, [`BuildError::Automata`] at the 9th automaton.
+    pub fn pattern(&mut self, text: &[u8]) -> Result<AutomatonHandle, BuildError> {
+        let mut buffer = [0; LARGEST_AUTOMATON];
+        let written = compile(text, usize::from(self.symbols), &mut buffer).map_err(BuildError::Pattern)?;
+        let handle = self.handle(self.automata.len(), MOST_AUTOMATA, BuildError::Automata)?;
+        self.automata.push(buffer[..written].to_vec());
         Ok(AutomatonHandle(handle))
     }
 

@@ -26,4 +26,5 @@ extern "C" {
         nodes: *mut u32,
     ) -> u8;
     pub fn cobleskeg_perform(file: *const u8, size: usize, list: *const u32, calls: usize, table: *mut u64, words: usize);
+    pub fn cobleskeg_compile(text: *const u8, size: usize, symbols: usize, buffer: *mut u8, room: usize, written: *mut usize) -> u8;
 }

@@ -43,6 +43,12 @@ pub const LARGEST_FILE: usize = 25_024;
 /// The words of the largest table.
 pub const LARGEST_TABLE: usize = 1_040;
 
+/// The bytes of the longest text of a pattern, see [`compile`].
+pub const LONGEST_PATTERN: usize = 63;
+
+/// The bytes of the largest automaton, 32 states over 64 symbols.
+pub const LARGEST_AUTOMATON: usize = 2_053;
+
 /// The bytes of stack that a thread should have which calls [`search`], [`solve`], [`settle`], [`step`] or [`perform`]: more than twice what they were measured
 /// to take. The threads that Rust makes have more.
 pub const STACK: usize = 65_536;
@@ -153,4 +159,19 @@ pub fn search(file: &[u8], budget: u32, room: &mut [u64], table: &mut [u64]) -> 
 /// goes on; so nothing is refused here.
 pub fn perform(file: &[u8], list: &[u32], table: &mut [u64]) {
     unsafe { entries::cobleskeg_perform(file.as_ptr(), file.len(), list.as_ptr(), list.len(), table.as_mut_ptr(), table.len()) }
+}
+
+/// Writes the automaton of a pattern over the symbols 0 to `symbols` - 1 to the start of `buffer`, as it stands in a problem file. Answers how many bytes it
+/// has; those of `buffer` beyond are untouched, and [`LARGEST_AUTOMATON`] bytes are enough for every pattern. It accepts just the strings that the pattern
+/// stands for.
+///
+/// The letters of a pattern are 0 to 9 for the symbols 0 to 9, `.` for 10, a to z for 11 to 36, `-` for 37 and `/` for 38. Branches are parted by `|`, items
+/// stand side by side, an item is a letter or a pattern in round brackets, and one `*` may follow it, for any number of times; an empty branch stands for the
+/// empty string.
+///
+/// Refuses 14 to 17.
+pub fn compile(text: &[u8], symbols: usize, buffer: &mut [u8]) -> Result<usize, Refusal> {
+    let mut written = 0;
+    Refusal::check(unsafe { entries::cobleskeg_compile(text.as_ptr(), text.len(), symbols, buffer.as_mut_ptr(), buffer.len(), &mut written) })?;
+    Ok(written)
 }

@@ -3,7 +3,7 @@
 use std::error::Error;
 use std::fmt;
 
-/// The first refusal that applies, by its number from 1 to 13. Whatever was lent is as it was.
+/// The first refusal that applies, by its number from 1 to 17. Whatever was lent is as it was.
 #[derive(Clone, Copy, Debug, PartialEq, Eq, Hash)]
 pub struct Refusal(u8);
 
@@ -36,6 +36,10 @@ impl Refusal {
             11 => "there is no step of this number",
             12 => "the room has less than three times the words of the problem",
             13 => "the answer table has not as many words as the problem",
+            14 => "the text has more than 63 bytes, or is no pattern",
+            15 => "the number of symbols is not 1 to 64, or a letter's symbol is not below it",
+            16 => "the automaton has more than 32 states",
+            17 => "the buffer is shorter than the automaton's bytes",
             _ => "no entry refuses by this number",
         }
     }

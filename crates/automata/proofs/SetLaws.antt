@@ -2,18 +2,15 @@
 use mathlib.Core.Path.{_≡_, refl, sym, ap, subst, _∙_}
 use mathlib.Core.Logic.{_⊎_, inl, inr, ⊎-elim}
 use mathlib.Core.Bool.{Bool, true, false, not, false≢true}
-use Prim.Native.Nat.{ℕ, _+_, _-_, _^_, _≤_, _<_}
-use native.Mathlib.Nat.{le-of-suc-le-suc, eq-or-lt-of-le}
-use native.Mathlib.Numerals.{add-one}
+use Prim.Native.Nat.{ℕ, _-_, _^_, _≤_, _<_}
 use native.Mathlib.Omega.{arith}
 use lib.Bits.{bitAnd, bitOr}
 use lib.Dec.{eqb}
-use lib.Pow.{pow-pos}
 use borrow.Author.Tests.{ltb-true, lt-ltb, eqb-true}
 use Rattle.model.specs.Words.{bit}
 use Rattle.model.specs.Constraints.{Automaton, move}
 use Rattle.laws.proofs.ListLaws.{and-true, true-and}
-use Rattle.laws.proofs.WordLaws.{zero-bit, pow-self, pow-only, or-bit-left, or-bit-right, of-or-bit, bit-high, bit-le, bit-sub, sub-within}
+use Rattle.laws.proofs.WordLaws.{zero-bit, pow-self, pow-only, or-bit-left, or-bit-right, of-or-bit, bit-high, bit-sub, sub-within}
 use Rattle.laws.proofs.ShiftLaws.{bit-and, bit-mask}
 use Rattle.words.specs.Ends.{Lowest}
 use Rattle.automata.specs.StateSets.{Gathered, Found, LowBits, Moves, Enters, Successors}
@@ -41,13 +38,6 @@ low-mask n w o e = rw e (record {
 -- a word of 64 bits has none at 64 or above
 pub low-all : (n w : ℕ) → n ≤ 64 → 64 ≤ n → w < 2 ^ 64 → LowBits n w w
 low-all n w l g f = record { sound = λ i h. let t = bit-high w 64 i f h in (omega arith, h); complete = λ i h b. b }
-
--- the lowest bit can be taken off, and then less is left
-pub lowest-off : (w a o : ℕ) → Lowest w a → o ≡ 2 ^ a → (o ≤ w) × (w - o < w)
-lowest-off w a o low e =
-    let p = pow-pos a in
-    let l = bit-le w a (low .here) in
-    (omega arith, omega arith)
 
 -- r has what E gives for the numbers below n, but for those that are still to come: the bits of rest, which are bits of w
 pub record Walked (n w : ℕ) (E : ℕ → ℕ → Type 0) (rest r : ℕ) : Type 0 where

@@ -8,7 +8,6 @@ use Prim.Native.Nat.{ℕ, zero, suc, _+_, _-_, _*_, _/_, _%_, _^_, _≤_, _<_}
 use native.Mathlib.Omega.{arith}
 use lib.Bits.{bitAnd, bitOr, or-self, or-zero-l, or-zero-r}
 use lib.Dec.{ltb}
-use lib.Pow.{pow-pos}
 use lib.ListN.{length, List·getD-eq-default}
 use lib.Seq.{ext-getD}
 use borrow.Author.Tests.{lt-ltb, le-ltb, ltb-true, ltb-false}
@@ -20,7 +19,7 @@ use Rattle.rows.specs.Rows.{joined}
 use Rattle.rows.proofs.Fill.{tabulated-length, tabulated-word}
 use Rattle.rows.proofs.MeetLaws.{of-and-bit, joined-or}
 use Rattle.laws.proofs.DomainLaws.{row-length}
-use Rattle.laws.proofs.WordLaws.{within-antisym, of-or-bit, or-bit-left, or-bit-right, bit-le, sub-within}
+use Rattle.laws.proofs.WordLaws.{within-antisym, of-or-bit, or-bit-left, or-bit-right, sub-within}
 use Rattle.laws.proofs.Supports.{orWords, orWords-length, orWords-word}
 use Rattle.inplace.specs.InTable.{both, Meets}
 use Rattle.inplace.proofs.Tables.{row-first, highest-most, same-row}
@@ -360,12 +359,6 @@ module _ (T : List ℕ) (x y z last p : ℕ) (s₃ : Strings T x y z) (bd : Word
     }
 
 -- ---- the turn of `gather`
-
-pub lowest-off : (w a o : ℕ) → Lowest w a → o ≡ 2 ^ a → (o ≤ w) × (w - o < w)
-lowest-off w a o low e =
-    let p = pow-pos a in
-    let l = bit-le w a (low .here) in
-    (omega arith, omega arith)
 
 pub gather-turn : (T : List ℕ) (x y z last p : ℕ) (R : List ℕ) (next : ℕ) (S : List ℕ) (rest one : ℕ) → one ≡ 2 ^ p → Advanced T x y z last p R next S
     → Lowest rest p

@@ -22,7 +22,7 @@ use Rattle.laws.proofs.DomainLaws.{row-length, row-words, row-past}
 use Rattle.laws.proofs.WordLaws.{pow-self, pow-only, zero-bit, no-bits, word-ext}
 use Rattle.laws.proofs.ShiftLaws.{bit-shr, of-shifted, in-shifted}
 use Rattle.cat.proofs.CatLaws.{lengths-at, none-supported}
-use Rattle.inplace.proofs.Loops.{or-false, or-true}
+use Rattle.laws.proofs.ListLaws.{or-false, or-true}
 use Rattle.inplace.proofs.Reach.{Reach, same-bit, of-short, empty-none, reach-none, reach-right, reach-tidy}
 use Rattle.inplace.proofs.Tables.{row-first, row-place, highest-most, highest-one, only-other, only-out, bit-some}
 use Rattle.inplace.proofs.Sides.{Side, side-of, changed-moved, side-ended, side-cut, side-flag, side-plain}

@@ -6,6 +6,7 @@ use Rattle.model.specs.Constraints.{Problem}
 use Rattle.model.specs.Tree.{found, none, spent}
 use Rattle.model.specs.Replies.{Reply, refused, answered}
 use Rattle.model.specs.Operations as model
+use Rattle.model.specs.Compile.{Compiled}
 use Rattle.laws.specs.Lent.{lendable, unlendable}
 use Rattle.cobleskeg.specs.declared.Header.{Header}
 use Rattle.cobleskeg.specs.declared.ReadAnswer.{ReadAnswer}
@@ -18,6 +19,8 @@ use Rattle.cobleskeg.specs.declared.SettleAnswer.{SettleAnswer}
 use Rattle.cobleskeg.specs.declared.SettleAnswer.the-variants as ofSettle
 use Rattle.cobleskeg.specs.declared.SearchAnswer.{SearchAnswer}
 use Rattle.cobleskeg.specs.declared.SearchAnswer.the-variants as ofSearch
+use Rattle.cobleskeg.specs.declared.CompileAnswer.{CompileAnswer}
+use Rattle.cobleskeg.specs.declared.CompileAnswer.the-variants as ofCompile
 
 unfoldable pub headerOf : Header → model.Header
 headerOf h =
@@ -57,3 +60,8 @@ searchReply R U (ofSearch.Refused n) = refused n
 searchReply R U (ofSearch.Found n) = answered (record { outcome = found n; room = R; table = U })
 searchReply R U (ofSearch.None n) = answered (record { outcome = none n; room = R; table = U })
 searchReply R U (ofSearch.Spent n) = answered (record { outcome = spent n; room = R; table = U })
+
+-- C is the lent buffer afterwards
+unfoldable pub compileReply : List ℕ → CompileAnswer → Reply Compiled
+compileReply C (ofCompile.Refused n) = refused n
+compileReply C (ofCompile.Written n) = answered (record { written = n; buffer = C })

@@ -1,10 +1,11 @@
--- Demand 3 of what runs (document 01, "How is demand 3 put?"): the claim on the answer of Search, and on the table that a list of calls leaves. Assumes nothing.
+-- Demand 3 of what runs (document 01, "How is demand 3 put?"): the claim on the answer of Search, and on the table that a list of calls leaves; and the claim on
+-- the bytes that Compile writes. Assumes nothing.
 use mathlib.Core.Path.{_≡_}
 use mathlib.Core.Bool.{true, cond}
 use mathlib.Core.List.{List, _∷_, _++_}
 use Prim.Native.Nat.{ℕ, suc, _*_, _≤_, _<_}
 use lib.Dec.{eqb}
-use lib.ListN.{length}
+use lib.ListN.{length, take}
 use Rattle.model.specs.Constraints.{Choice, width}
 use Rattle.model.specs.Solutions.{Solution, tableOf}
 use Rattle.model.specs.Order.{First}
@@ -12,9 +13,12 @@ use Rattle.model.specs.Tree.{solved, nodes}
 use Rattle.model.specs.Replies.{refused, answered}
 use Rattle.model.specs.Reading.{Accepted, reading}
 use Rattle.model.specs.Operations.{step, Settlement, settle}
+use Rattle.model.specs.Compile.{AcceptsLanguage}
 use Rattle.model.specs.Claim.{Call, stepCall, settleCall, NoStepStrikes, Holds, NoneSolved}
 use Rattle.cobleskeg.specs.declared.SearchAnswer.{SearchAnswer}
 use Rattle.cobleskeg.specs.declared.SearchAnswer.the-variants.{Found, None}
+use Rattle.cobleskeg.specs.declared.CompileAnswer.{CompileAnswer}
+use Rattle.cobleskeg.specs.declared.CompileAnswer.the-variants.{Written}
 
 -- ---- Search
 
@@ -51,3 +55,9 @@ pub record ListHolds (file T U : List ℕ) : Type 0 where
       → (α : Choice) → Solution (a .problem) T α → Holds (a .problem) U α
   -- "a table on which no step strikes is the very table one Settle leaves"
   pub settles : (a : Accepted) → reading file ≡ answered a → (m : Settlement) → settle (reading file) T ≡ answered m → NoStepStrikes a U → U ≡ m .table
+
+-- ---- Compile
+
+-- Compile with this text and k answers r and leaves C in the buffer: of what it wrote, "The automaton accepts just the pattern's language"
+abbrev pub CompileHolds : List ℕ → ℕ → CompileAnswer → List ℕ → Type 0
+CompileHolds s k r C = (n : ℕ) → r ≡ Written n → AcceptsLanguage k s (take n C)

@@ -1,4 +1,4 @@
-// The public entries: each takes any lent buffers, refuses by the numbers of document 01 in its order, and writes only after its last test.
+// The public entries: each takes any lent buffers, refuses by the numbers of documents 01 and 02 in their order, and writes only after its last test.
 //
 // Assumes nothing.
 ghost use mathlib.Core.Path.{_≡_};
@@ -9,8 +9,9 @@ ghost use Rattle.model.specs.Replies.{leaves};
 ghost use Rattle.model.specs.Reading.{reading};
 ghost use Rattle.model.specs.Operations.{read, unpack, Stepped, step, Settlement, settle, Searched, search};
 ghost use Rattle.model.specs.Claim.{call, calls};
-ghost use Rattle.cobleskeg.specs.Answers.{lentNumber, readReply, unpackReply, stepReply, settleReply, searchReply};
-ghost use Rattle.cobleskeg.specs.Claims.{callOf, SearchHolds, ListHolds};
+ghost use Rattle.model.specs.Compile.{Compiled, compile};
+ghost use Rattle.cobleskeg.specs.Answers.{lentNumber, readReply, unpackReply, stepReply, settleReply, searchReply, compileReply};
+ghost use Rattle.cobleskeg.specs.Claims.{callOf, SearchHolds, ListHolds, CompileHolds};
 
 // The counts of symbols, strings, numbers, automata and constraints.
 pub struct Header {
@@ -202,5 +203,23 @@ pub fn perform(file: &[u8], list: &[u32], table: &mut [u64])
 {
     for i in 0..list.len() {
         call(file, list[i], table);
+    }
+}
+
+// What Compile answers: how many bytes it wrote.
+pub enum CompileAnswer {
+    Refused(u8),
+    Written(usize),
+}
+
+// Compile: the automaton of a pattern for k symbols, as the bytes that stand for it in a file; or the first of the refusals 14 to 17.
+pub fn compile(text: &[u8], k: usize, buffer: &mut [u8]) -> CompileAnswer
+    ensures { λ r. ⌜ compileReply (now (buffer .exit)) r ≡ compile k (now (text .entry)) (now (buffer .entry)) ⌝ }
+    ensures { λ r. ⌜ now (buffer .exit) ≡ leaves (λ (a : Compiled). a .buffer) (compile k (now (text .entry)) (now (buffer .entry))) (now (buffer .entry)) ⌝ }
+    ensures { λ r. ⌜ CompileHolds (now (text .entry)) k r (now (buffer .exit)) ⌝ }
+{
+    match compiler::compile(text, k, buffer) {
+        compiler::Outcome::Refused(n) => CompileAnswer::Refused(n),
+        compiler::Outcome::Written(n) => CompileAnswer::Written(n),
     }
 }

@@ -1,13 +1,16 @@
 -- What each function of the C interface returns and leaves, by what the entry below it answered. Assumes nothing.
 use mathlib.Core.Path.{_≡_, refl, sym, ap, subst, _∙_}
-use mathlib.Core.Bool.{Bool, true, false}
+use mathlib.Core.Bool.{Bool, true, false, true≢false}
 use mathlib.Core.List.{List}
 use Prim.Native.Nat.{ℕ}
 use lib.Dec.{eqb}
+use lib.ListN.{take}
+use borrow.Author.Tests.{eq-eqb}
 use mir.Val.{boolByte}
 use Rattle.model.specs.Tree.{Outcome, found, none, spent}
-use Rattle.model.specs.Replies.{Reply, refused, answered, leaves}
+use Rattle.model.specs.Replies.{Reply, answered}
 use Rattle.model.specs.Operations.{Header, Stepped, Settlement, Searched}
+use Rattle.model.specs.Compile.{Compiled, AcceptsLanguage}
 use Rattle.cobleskeg.specs.declared.Header.{Header as Counts}
 use Rattle.cobleskeg.specs.declared.Rounds.{Rounds}
 use Rattle.cobleskeg.specs.declared.ReadAnswer.{ReadAnswer}
@@ -20,8 +23,10 @@ use Rattle.cobleskeg.specs.declared.SettleAnswer.{SettleAnswer}
 use Rattle.cobleskeg.specs.declared.SettleAnswer.the-variants as ofSettle
 use Rattle.cobleskeg.specs.declared.SearchAnswer.{SearchAnswer}
 use Rattle.cobleskeg.specs.declared.SearchAnswer.the-variants as ofSearch
-use Rattle.cobleskeg.specs.Claims.{SearchHolds}
-use Rattle.cobleskeg.specs.Answers.{headerOf, readReply, unpackReply, stepReply, settleReply, searchReply}
+use Rattle.cobleskeg.specs.declared.CompileAnswer.{CompileAnswer}
+use Rattle.cobleskeg.specs.declared.CompileAnswer.the-variants as ofCompile
+use Rattle.cobleskeg.specs.Claims.{SearchHolds, CompileHolds}
+use Rattle.cobleskeg.specs.Answers.{headerOf, readReply, unpackReply, stepReply, settleReply, searchReply, compileReply}
 use Rattle.cobleskeg_c.specs.Numbers.{refusal, writes, bitOf, outcomeNumber, outcomeNodes, searchAnswer}
 use Rattle.cobleskeg_c.proofs.ZeroLaws.{Numbered, above-zero}
 use Rattle.cobleskeg_c.proofs.ReturnLaws.{refused-number, refused-stays, answered-number, answered-written}
@@ -154,3 +159,22 @@ module _ (file : List ℕ) (budget : ℕ) (R A U : List ℕ) (a : SearchAnswer) 
   pub spent-holds : a ≡ ofSearch.Spent n → Claimed (searchAnswer 0 3 n)
   unfolding searchAnswer
   spent-holds q = subst Claimed q claim
+
+-- ---- Compile
+
+module _ (s : List ℕ) (k : ℕ) (C : List ℕ) (a : CompileAnswer) (R : Reply Compiled) (told : compileReply C a ≡ R) (claim : CompileHolds s k a C) (n old : ℕ) where
+  -- what it returns, how many bytes are said to be written afterwards, where `old` was said before, and the claim on them
+  abbrev CompileLeaves : ℕ → ℕ → Type 0
+  CompileLeaves m now = (m ≡ refusal R) × ((now ≡ writes (λ (c : Compiled). c .written) R old) × (m ≡ 0 → AcceptsLanguage k s (take now C)))
+
+  pub compile-refused : Numbered R → a ≡ ofCompile.Refused n → CompileLeaves n old
+  unfolding compileReply
+  compile-refused numbered q =
+      let e = ap (compileReply C) (sym q) ∙ told in
+      (refused-number R n e, (refused-stays R n e _ old, λ z. absurd (true≢false (sym (eq-eqb n 0 z) ∙ above-zero R numbered n (sym e)))))
+
+  pub compile-written : a ≡ ofCompile.Written n → CompileLeaves 0 n
+  unfolding compileReply
+  compile-written q =
+      let e = ap (compileReply C) (sym q) ∙ told in
+      (answered-number R _ e, (answered-written R _ e _ old, λ z. claim n q))

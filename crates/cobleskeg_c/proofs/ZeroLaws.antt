@@ -9,6 +9,9 @@ use Rattle.model.specs.Replies.{Reply, refused, answered, require, obtain, andT
 use Rattle.model.specs.Layout.{layout}
 use Rattle.model.specs.Reading.{Reading, problemOf, reading}
 use Rattle.model.specs.Operations.{read, requireLength, unpack, onTable, step, settle, search}
+use Rattle.model.specs.Pattern.{Pattern}
+use Rattle.model.specs.PatternText.{Parsed, bad, parsed}
+use Rattle.model.specs.Compile.{whenParsed, compiledBytes, compile}
 use Rattle.laws.proofs.ReplyLaws.{refused≢answered}
 use Rattle.cobleskeg_c.specs.Numbers.{refusal}
 
@@ -74,3 +77,15 @@ module _ (r : Reading) (known : Numbered r) (T : List ℕ) where
   pub search-numbered : (budget : ℕ) (room : List ℕ) → Numbered (search r budget room T)
   unfolding search
   search-numbered budget room = then-numbered r _ known (λ a. require-numbered _ 12 _ tt (require-numbered _ 13 _ tt by-answer))
+
+parsed-numbered : {A : Type 0} (r : Parsed) (f : Pattern → Reply A) → ((e : Pattern) → Numbered (f e)) → Numbered (whenParsed r f)
+unfolding whenParsed
+parsed-numbered bad f h = by-number tt
+parsed-numbered (parsed e p) f h = h e
+
+pub compile-numbered : (k : ℕ) (s B : List ℕ) → Numbered (compile k s B)
+unfolding compile compiledBytes
+compile-numbered k s B =
+    then-numbered _ _
+    (require-numbered _ 14 _ tt (parsed-numbered _ _ (λ e. require-numbered _ 15 _ tt (require-numbered _ 16 _ tt (require-numbered _ 17 _ tt by-answer)))))
+    (λ bs. by-answer)

@@ -2,6 +2,7 @@
 // the refusal, or 0, and writes what the entry answers through references; a refusal writes nothing there either.
 //
 // Assumes nothing.
+use cobleskeg::CompileAnswer;
 use cobleskeg::ReadAnswer;
 use cobleskeg::SearchAnswer;
 use cobleskeg::SettleAnswer;
@@ -9,10 +10,12 @@ use cobleskeg::StepAnswer;
 use cobleskeg::UnpackAnswer;
 ghost use mathlib.Core.Path.{_≡_};
 ghost use mathlib.Core.List.{map};
+ghost use lib.ListN.{take};
 ghost use Rattle.model.specs.Replies.{leaves};
 ghost use Rattle.model.specs.Reading.{reading};
 ghost use Rattle.model.specs.Operations.{Header, read, unpack, Stepped, step, Settlement, settle, Searched, search};
 ghost use Rattle.model.specs.Claim.{calls};
+ghost use Rattle.model.specs.Compile.{Compiled, compile, AcceptsLanguage};
 ghost use Rattle.cobleskeg.specs.Claims.{callOf, SearchHolds, ListHolds};
 ghost use Rattle.cobleskeg_c.specs.Numbers.{refusal, writes, bitOf, outcomeNumber, outcomeNodes, searchAnswer};
 ghost use Rattle.cobleskeg_c.specs.Version.{version};
@@ -171,4 +174,28 @@ pub extern "C" fn cobleskeg_perform(file: &[u8], list: &[u32], table: &mut [u64]
     ensures { λ r. ⌜ ListHolds (now (file .entry)) (now (table .entry)) (now (table .exit)) ⌝ }
 {
     cobleskeg::perform(file, list, table);
+}
+
+// Compile, and how many bytes it wrote.
+#[no_mangle]
+pub extern "C" fn cobleskeg_compile(
+    text: &[u8],
+    symbols: usize,
+    buffer: &mut [u8],
+    written: &mut usize,
+) -> u8
+    ensures { λ r. ⌜ r ≡ refusal (compile symbols (now (text .entry)) (now (buffer .entry))) ⌝ }
+    ensures { λ r. ⌜ now (buffer .exit)
+        ≡ leaves (λ (a : Compiled). a .buffer) (compile symbols (now (text .entry)) (now (buffer .entry))) (now (buffer .entry)) ⌝ }
+    ensures { λ r. ⌜ now (written .exit)
+        ≡ writes (λ (a : Compiled). a .written) (compile symbols (now (text .entry)) (now (buffer .entry))) (now (written .entry)) ⌝ }
+    ensures { λ r. ⌜ (r ≡ 0 → AcceptsLanguage symbols (now (text .entry)) (take (now (written .exit)) (now (buffer .exit)))) ⌝ }
+{
+    match cobleskeg::compile(text, symbols, buffer) {
+        CompileAnswer::Refused(n) => n,
+        CompileAnswer::Written(n) => {
+            *written = n;
+            0
+        }
+    }
 }

@@ -3,14 +3,14 @@
 // Standard input holds one case after another. A case is 18 bytes of numbers, the words of the lent table that differ from the fill (2 bytes of place and 8 of
 // word), the calls of a list (4 bytes each) and the file:
 //
-//     at 0    the operation: 0 Read and Unpack, 1 Step, 2 Settle, 3 Search, 4 a list of calls
+//     at 0    the operation: 0 Read and Unpack, 1 Step, 2 Settle, 3 Search, 4 a list of calls, 5 Compile
 //     at 2    how many words of a table are lent
-//     at 4    how many words of room are lent
+//     at 4    how many words of room are lent, or bytes of a buffer
 //     at 6    the fill: what every lent word holds before the call
-//     at 8    the number of a step, or the budget (4 bytes)
+//     at 8    the number of a step, the budget, or the number of symbols (4 bytes)
 //     at 12   how many words differ from the fill
 //     at 14   how many calls the list has
-//     at 16   how many bytes the file has
+//     at 16   how many bytes the file has, or the text of a pattern in its place
 use libc::STDIN_FILENO;
 use libc::STDOUT_FILENO;
 ghost use Prim.Native.Nat.{_+_, _*_, _≤_, _<_};
@@ -188,6 +188,54 @@ fn print_perform(file: &[u8], calls: &[u8], table: &mut [u64]) {
     print_left(table);
 }
 
+// A byte of each word, as far as there are bytes; answers how many.
+fn to_bytes(words: &[u64], bytes: &mut [u8]) -> usize
+    ensures { λ r. ⌜ Counts r (now (bytes .exit)) ⌝ }
+{
+    let mut i: usize = 0;
+    while i < bytes.len() {
+        if i >= words.len() {
+            return i;
+        }
+        bytes[i] = (words[i] % 256) as u8;
+        i += 1;
+    }
+    i
+}
+
+// A word of each byte, as far as there are words.
+fn to_words(bytes: &[u8], words: &mut [u64]) {
+    let mut i: usize = 0;
+    while i < words.len() {
+        if i >= bytes.len() {
+            return;
+        }
+        words[i] = bytes[i] as u64;
+        i += 1;
+    }
+}
+
+// The words get the bytes that the call leaves.
+fn compile(text: &[u8], k: usize, buffer: &mut [u8], words: &mut [u64]) {
+    print(b"compile");
+    match cobleskeg::compile(text, k, buffer) {
+        cobleskeg::CompileAnswer::Refused(n) => print_refused(n),
+        cobleskeg::CompileAnswer::Written(n) => {
+            print(b" written");
+            print_number(n as u64);
+        }
+    }
+    to_words(buffer, words);
+    print_left(words);
+}
+
+// The words stand for the bytes of the lent buffer.
+fn print_compile(text: &[u8], k: usize, words: &mut [u64]) {
+    let mut buffer = [0u8; 4096];
+    let n = to_bytes(words, &mut buffer);
+    compile(text, k, &mut buffer[..n], words);
+}
+
 // One line for a case.
 fn report(
     operation: usize,
@@ -205,7 +253,8 @@ fn report(
         1 => print_step(file, argument as usize, table),
         2 => print_settle(file, table),
         3 => print_search(file, argument, room, table),
-        _ => print_perform(file, calls, table),
+        4 => print_perform(file, calls, table),
+        _ => print_compile(file, argument as usize, room),
     }
 }
 

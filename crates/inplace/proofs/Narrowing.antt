@@ -1,10 +1,10 @@
 -- A table is the narrowed one where its rows and numbers, taken out, are what the relation leaves of the old ones, and no other word differs: how a step in
 -- place is a step. One law for every kind, over the lists of the positions that it names; nothing is stored. Assumes nothing.
-use mathlib.Core.Path.{_≡_, refl, sym, ap, _∙_}
+use mathlib.Core.Path.{_≡_, sym, ap, _∙_}
 use mathlib.Core.Logic.{_≢_}
 use mathlib.Core.Bool.{false, false≢true}
-use mathlib.Core.List.{List, [], _∷_, map}
-use Prim.Native.Nat.{ℕ, zero, suc, _+_, _*_, _<_}
+use mathlib.Core.List.{List, [], map}
+use Prim.Native.Nat.{ℕ, _+_, _*_, _<_}
 use native.Mathlib.Omega.{arith}
 use lib.ListN.{length, getD, length-map}
 use Rattle.model.specs.Words.{word}
@@ -15,16 +15,11 @@ use Rattle.rows.specs.Rows.{alone}
 use Rattle.rows.proofs.Alone.{together, Rows64, together-length, together-row, together-number}
 use Rattle.rows.proofs.NamedLaws.{places, Named, index-of-position}
 use Rattle.laws.specs.Inclusion.{In}
-use Rattle.laws.proofs.ListLaws.{getD-in}
+use Rattle.laws.proofs.ListLaws.{getD-in, getD-map}
 use Rattle.laws.proofs.DomainLaws.{row-length}
 use Rattle.laws.proofs.SupportLaws.{touched-text, touched-value}
 use Rattle.laws.proofs.RenameLaws.{narrowed-renamed}
 use Rattle.inplace.specs.InTable.{Out}
-
-pub getD-map-inside : {A B : Type 0} (f : A → B) (xs : List A) (z : ℕ) (a : A) (b : B) → z < length xs → getD (map f xs) z b ≡ f (getD xs z a)
-getD-map-inside f [] z a b h = absurd (omega arith)
-getD-map-inside f (x ∷ xs) zero a b h = refl
-getD-map-inside f (x ∷ xs) (suc z) a b h = getD-map-inside f xs z a b (omega arith)
 
 module _ (P : Problem) (c : Constraint) (d : Constraint) (ds : List Automaton) (xs ms : List ℕ) (n : Named P c d ds xs ms) where
   -- the rows and numbers of a table, taken out
@@ -35,15 +30,15 @@ module _ (P : Problem) (c : Constraint) (d : Constraint) (ds : List Automaton) (
   taken-64 T ln z h =
       let k : z < length xs = omega (arith, length-map xs (row T)) in
       let t = n .texts (getD xs z 0) (getD-in xs z 0 k) .0 in
-      ap length (getD-map-inside (row T) xs z 0 [] k) ∙ row-length T (getD xs z 0) (omega arith)
+      ap length (getD-map (row T) xs z 0 [] k) ∙ row-length T (getD xs z 0) (omega arith)
 
   taken-row : (T : List ℕ) → length T ≡ width P → (x : ℕ) → x < length xs → row T (getD xs x 0) ≡ row (taken T) x
-  taken-row T ln x h = sym (together-row (map (row T) xs) _ (taken-64 T ln) x (omega (arith, length-map xs (row T))) ∙ getD-map-inside (row T) xs x 0 [] h)
+  taken-row T ln x h = sym (together-row (map (row T) xs) _ (taken-64 T ln) x (omega (arith, length-map xs (row T))) ∙ getD-map (row T) xs x 0 [] h)
 
   taken-number : (T : List ℕ) → length T ≡ width P → (x : ℕ) → x < length ms → word T (64 * P .strings + getD ms x 0) ≡ word (taken T) (64 * length xs + x)
   taken-number T ln x h =
       let e : 64 * length xs + x ≡ 64 * length (map (row T) xs) + x = omega (arith, length-map xs (row T)) in
-      sym (ap (word (taken T)) e ∙ together-number (map (row T) xs) _ (taken-64 T ln) x ∙ getD-map-inside (λ m. word T (64 * P .strings + m)) ms x 0 0 h)
+      sym (ap (word (taken T)) e ∙ together-number (map (row T) xs) _ (taken-64 T ln) x ∙ getD-map (λ m. word T (64 * P .strings + m)) ms x 0 0 h)
 
   -- a table whose rows and numbers are those that the relation leaves, and no other word of which differs
   pub in-place-rows : (T U : List ℕ) → length T ≡ width P → length U ≡ length T

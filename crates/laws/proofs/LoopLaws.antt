@@ -10,7 +10,6 @@ use lib.Dec.{eqb, ltb}
 use lib.ListN.{length, set, take, drop, replicate, length-append, length-take, length-drop, getD-replicate, List·getD-append}
 use lib.Seq.{length-take-le, getD-append-add, getD-set-same, getD-set-other, take-set-le, getD-take, getD-drop, take-append-le, take-take, ext-getD}
 use borrow.Author.Tests.{ltb-true, ltb-false, eqb-true, eqb-false}
-use Rattle.model.specs.Lists.{select, upto, from}
 use Rattle.model.specs.Words.{bit, bits, word, Words}
 use Rattle.model.specs.Constraints.{Problem}
 use Rattle.model.specs.Rounds.{settled}
@@ -18,16 +17,12 @@ use Rattle.model.specs.Tree.{nodes, children, solved, searching, found, none, s
 use Rattle.laws.specs.Inclusion.{In, Within, Below}
 use Rattle.laws.specs.Traversal.{base, left, waiting, visit}
 use Rattle.laws.proofs.ListLaws.{flatMap-append, flatMap-map, flatMap-cong}
-use Rattle.laws.proofs.WordLaws.{of-bits}
+use Rattle.laws.proofs.WordLaws.{zero-bits, of-bits}
 use Rattle.laws.proofs.TableLaws.{below-words}
 use Rattle.laws.proofs.RoundLaws.{settled-below}
 use Rattle.laws.proofs.ChildLaws.{settle-restricted, child-below}
 use Rattle.laws.proofs.TreeLaws.{nodes-step, nodes-settled}
 use Rattle.laws.proofs.BudgetLaws.{search-visit}
-
-zero-bits : bits 0 ≡ []
-unfolding bits upto from select bit
-zero-bits = refl
 
 module _ (F : List ℕ) where
   -- its words, and its place below the file's table

@@ -1,7 +1,7 @@
 -- A solution's own table: the lines of its words are the lines of its values, and how long they are at most. Assumes nothing.
 use mathlib.Core.Path.{_≡_, refl, sym, ap, ap₂, subst, _∙_}
 use mathlib.Core.List.{List, [], _∷_, _++_, map, flatMap, List·Memᴰ·head, List·Memᴰ·tail, append-nil}
-use Prim.Native.Nat.{ℕ, zero, suc, _+_, _-_, _*_, _/_, _%_, _^_, _<_}
+use Prim.Native.Nat.{ℕ, zero, suc, _+_, _*_, _/_, _%_, _^_, _<_}
 use native.Mathlib.Omega.{arith}
 use native.Mathlib.Nat.{pow-suc}
 use lib.Count.{trailingZeros}
@@ -13,7 +13,7 @@ use Rattle.model.specs.Domains.{row, stringsOf, valuesOf}
 use Rattle.model.specs.Constraints.{Choice, Problem, width}
 use Rattle.model.specs.Solutions.{Fits, textBit, tableOf}
 use Rattle.laws.specs.Inclusion.{In, Single}
-use Rattle.laws.proofs.ListLaws.{of-upto, flatMap-cong}
+use Rattle.laws.proofs.ListLaws.{of-upto, getD-map, flatMap-cong}
 use Rattle.laws.proofs.WordLaws.{of-bits}
 use Rattle.laws.proofs.BitsLaws.{pow-single}
 use Rattle.laws.proofs.RowLaws.{Short, of-strings, length-pow, symbol-pow, text-single, strings-few}
@@ -39,11 +39,6 @@ unfolding onlyValue
 value-pow v h = trailing-pow 64 v h
 
 -- ---- lists
-
-getD-map : (f : ℕ → ℕ) (xs : List ℕ) (i : ℕ) → i < length xs → getD (map f xs) i 0 ≡ f (getD xs i 0)
-getD-map f [] i h = absurd (omega arith)
-getD-map f (x ∷ xs) zero h = refl
-getD-map f (x ∷ xs) (suc i) h = getD-map f xs i (omega arith)
 
 -- a list of at most one element that has this one
 only-member : {A : Type 0} (xs : List A) (x : A) → length xs < 2 → In x xs → xs ≡ x ∷ []
@@ -111,7 +106,7 @@ module _ (P : Problem) (F : List ℕ) (α : Choice) (fits : Fits P F α) where
       (λ i k.
       let inside : i < length u = omega (arith, length-map (take (length u) (drop 1 (row own x))) onlyValue, cut) in
       let e : 1 + i ≡ suc i = omega arith in
-      getD-map onlyValue (take (length u) (drop 1 (row own x))) i (omega (arith, cut))
+      getD-map onlyValue (take (length u) (drop 1 (row own x))) i 0 0 (omega (arith, cut))
       ∙ ap onlyValue (getD-take (length u) (drop 1 (row own x)) i 0 inside ∙ getD-drop 1 (row own x) i 0 ∙ ap (λ (j : ℕ). word (row own x) j) e)
       ∙ row-value x (suc i) (getD u i 0) h (omega arith) (s .symbols-short i inside) (symbol-pow u i inside)))
 

@@ -1,5 +1,5 @@
 -- The definitions, in the order of document 01: what a table stands for, the relations, solutions, a narrowing step, rounds, the search tree, the order of
--- solutions, the file, the operations, demand 3, and the worked examples.
+-- solutions, the file, the operations, demand 3, and the worked examples; then patterns as text, which document 02 asks for.
 pub mod Lists
 pub mod Words
 pub mod Domains
@@ -19,3 +19,9 @@ pub mod Cases
 pub mod Examples
 pub mod FileExamples
 pub mod Traps
+pub mod Pattern
+pub mod PatternText
+pub mod PatternStates
+pub mod Numbering
+pub mod Compile
+pub mod PatternExamples

@@ -26,7 +26,7 @@ use Rattle.automata.proofs.SetLaws.{no-bit, gathered-empty}
 use Rattle.inplace.specs.declared.Change.{Change}
 use Rattle.inplace.specs.InTable.{Tidy, Ready, Shortened, Changed, Flag, zeros}
 use Rattle.inplace.specs.InPlace.{InPlace}
-use Rattle.inplace.proofs.Loops.{or-false, or-true, not-false, not-true}
+use Rattle.laws.proofs.ListLaws.{or-false, or-true, not-false, not-true}
 use Rattle.inplace.proofs.Tables.{row-first, row-place, highest-most, highest-one, bit-some, only-out}
 use Rattle.inplace.proofs.Sides.{Side, side-of, side-ended, side-flag}
 use Rattle.inplace.proofs.Shapes.{one-left, one-none}

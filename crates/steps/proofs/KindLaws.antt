@@ -2,7 +2,7 @@
 -- table. Assumes nothing.
 use mathlib.Core.Path.{_≡_, refl, sym, ap, subst, _∙_}
 use mathlib.Core.Logic.{_≢_}
-use mathlib.Core.Bool.{Bool, true, false, _||_, false≢true}
+use mathlib.Core.Bool.{true, false, _||_, false≢true}
 use mathlib.Core.List.{List, [], _∷_, List·Memᴰ·head, List·Memᴰ·tail}
 use Prim.Native.Nat.{ℕ, _+_, _*_, _≤_, _<_}
 use native.Mathlib.Omega.{arith}
@@ -17,6 +17,7 @@ use Rattle.model.specs.Layout.{Bytes}
 use Rattle.model.specs.Reading.{repeats}
 use Rattle.laws.specs.Inclusion.{In}
 use Rattle.laws.specs.Lent.{lendable}
+use Rattle.laws.proofs.ListLaws.{or-false}
 use Rattle.laws.proofs.ReadingLaws.{Sound}
 use Rattle.laws.proofs.CallLaws.{lendable-length}
 use Rattle.laws.proofs.RenameLaws.{pulled}
@@ -39,10 +40,6 @@ use Rattle.steps.proofs.NarrowsLaws.{narrows}
 
 differ : {x y : ℕ} → eqb x y ≡ false → y ≢ x
 differ {x} {y} e q = false≢true (sym e ∙ eq-eqb x y (sym q))
-
-or-false : (a b : Bool) → (a || b) ≡ false → (a ≡ false) × (b ≡ false)
-or-false false b e = (refl, e)
-or-false true b e = absurd (false≢true (sym e))
 
 -- ---- an automaton: one string, and no file
 

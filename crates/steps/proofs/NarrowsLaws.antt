@@ -15,7 +15,7 @@ use Rattle.model.specs.Domains.{Variable, str, num, row, owner}
 use Rattle.model.specs.Constraints.{Problem, Constraint, Automaton, width, variables}
 use Rattle.model.specs.Support.{touches, narrowed}
 use Rattle.laws.specs.Inclusion.{In}
-use Rattle.laws.proofs.ListLaws.{getD-in}
+use Rattle.laws.proofs.ListLaws.{getD-in, not-false, not-true, getD-map}
 use Rattle.laws.proofs.DomainLaws.{row-length, row-word, by-word, owner-text, owner-value, str≢num}
 use Rattle.laws.proofs.SupportLaws.{touched-text, touched-value}
 use Rattle.shortcuts.specs.Waiting.{Unchanged}
@@ -25,8 +25,7 @@ use Rattle.rows.proofs.NamedLaws.{Named}
 use Rattle.inplace.specs.declared.Change.{Change}
 use Rattle.inplace.specs.InTable.{Out}
 use Rattle.inplace.specs.InPlace.{InPlace, flag, taken}
-use Rattle.inplace.proofs.Narrowing.{getD-map-inside, in-place, in-place-rows}
-use Rattle.inplace.proofs.Loops.{not-false, not-true}
+use Rattle.inplace.proofs.Narrowing.{in-place, in-place-rows}
 use Rattle.steps.specs.Step.{cleared, Narrows}
 use Rattle.steps.proofs.ClearLaws.{cleared-length, cleared-touched, cleared-other}
 
@@ -148,19 +147,19 @@ module _ (P : Problem) (c d : Constraint) (ds : List Automaton) (xs ms : List �
 
   names-text : (i : ℕ) → i < length xs → getD (variables c) i (str 0) ≡ str (getD xs i 0)
   names-text i h =
-      ap (λ (l : List Variable). getD l i (str 0)) vc ∙ List·getD-append (map str xs) (map num ms) (str 0) i (omega (arith, length-map xs str)) ∙ getD-map-inside str xs i 0 (str 0) h
+      ap (λ (l : List Variable). getD l i (str 0)) vc ∙ List·getD-append (map str xs) (map num ms) (str 0) i (omega (arith, length-map xs str)) ∙ getD-map str xs i 0 (str 0) h
 
   names-number : (i : ℕ) → i < length ms → getD (variables c) (length xs + i) (str 0) ≡ num (getD ms i 0)
   names-number i h =
       let e : length xs + i ≡ length (map str xs) + i = omega (arith, length-map xs str) in
       ap (λ (l : List Variable). getD l (length xs + i) (str 0)) vc ∙ ap (λ (k : ℕ). getD (map str xs ++ map num ms) k (str 0)) e
-      ∙ getD-append-add (map str xs) (map num ms) i (str 0) ∙ getD-map-inside num ms i 0 (str 0) h
+      ∙ getD-append-add (map str xs) (map num ms) i (str 0) ∙ getD-map num ms i 0 (str 0) h
 
   names-length : length (variables c) ≡ length xs + length ms
   names-length = ap length vc ∙ omega (arith, length-append (map str xs) (map num ms), length-map xs str, length-map ms num)
 
   word-at : (W : List ℕ) (i : ℕ) → i < length ms → word W (getD (map at-word ms) i 0) ≡ word W (at-word (getD ms i 0))
-  word-at W i h = ap (word W) (getD-map-inside at-word ms i 0 0 h)
+  word-at W i h = ap (word W) (getD-map at-word ms i 0 0 h)
 
   unchanged : r .left ≡ true → (i : ℕ) (v : Variable) → i < length (variables c) → getD (variables c) i (str 0) ≡ v → flag i r ≡ false → Unchanged P T U v
   unchanged q i v h e f = go (ltb i (length xs)) refl

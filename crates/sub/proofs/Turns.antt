@@ -13,10 +13,9 @@ use lib.Seq.{getD-set-same, getD-set-other}
 use borrow.Author.Tests.{eqb-true, eqb-false}
 use Rattle.model.specs.Words.{bit, word}
 use Rattle.words.specs.Ends.{Lowest}
-use Rattle.laws.proofs.ListLaws.{true-and}
+use Rattle.laws.proofs.ListLaws.{true-and, or-false, or-true, not-false, not-true}
 use Rattle.laws.proofs.WordLaws.{zero-bit, bit-suc, bit-le, bit-sub, sub-within, or-bit-left, or-bit-right, of-or-bit}
 use Rattle.inplace.specs.InTable.{both}
-use Rattle.inplace.proofs.Loops.{or-false, or-true, not-false, not-true}
 use Rattle.sub.specs.Substrings.{Added, Over, Written}
 
 -- ---- a word without its lowest bit

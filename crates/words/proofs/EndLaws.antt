@@ -4,9 +4,10 @@ use mathlib.Core.Bool.{true, false}
 use Prim.Native.Nat.{ℕ, zero, suc, _-_, _*_, _/_, _%_, _^_, _+_, _≤_, _<_, suc-le-suc}
 use native.Mathlib.Nat.{not-suc-le-zero, le-of-suc-le-suc, zero-lt-suc, pow-suc}
 use native.Mathlib.Omega.{arith}
+use lib.Pow.{pow-pos}
 use lib.Count.{leadingZeros, trailingZeros, leading-top, under}
 use Rattle.model.specs.Words.{bit}
-use Rattle.laws.proofs.WordLaws.{bit-lowest, bit-suc}
+use Rattle.laws.proofs.WordLaws.{bit-lowest, bit-suc, bit-le}
 use Rattle.laws.proofs.ShiftLaws.{bit-past, bit-block}
 use Rattle.words.specs.Ends.{Highest, Lowest}
 
@@ -53,3 +54,10 @@ trail (suc k) w p h = go (w % 2) refl (λ q. trail k (w / 2) q (half-lt w k h))
 
 pub lowest-trailing : (w : ℕ) → 0 < w → w < 2 ^ 64 → Lowest w (trailingZeros 64 w)
 lowest-trailing w p h = let t = trail 64 w p h in record { small = t .small; here = t .here; below = t .below }
+
+-- the lowest bit can be taken off, and then less is left
+pub lowest-off : (w a o : ℕ) → Lowest w a → o ≡ 2 ^ a → (o ≤ w) × (w - o < w)
+lowest-off w a o low e =
+    let p = pow-pos a in
+    let l = bit-le w a (low .here) in
+    (omega arith, omega arith)

@@ -2,7 +2,8 @@ use mathlib.Core.Path.{_≡_, sym, _∙_}
 use native.Mathlib.Omega.{arith}
 use Rattle.model.specs.Constraints.{move}
 use Rattle.automata.specs.Machine.{stateCount, machine}
-use Rattle.automata.proofs.SetLaws.{Walked, Hit, walked-start, walked-next, lowest-off, hit-none, hit-one, hit-skip}
+use Rattle.words.proofs.EndLaws.{lowest-off}
+use Rattle.automata.proofs.SetLaws.{Walked, Hit, walked-start, walked-next, hit-none, hit-one, hit-skip}
 use borrow.Author.Needs.{needs}
 use Rattle.automata.proofs.leads.Statement.{statement}
 use Rattle.automata.proofs.leads.Tie as tie

@@ -1,7 +1,8 @@
 use mathlib.Core.Path.{_≡_}
 use native.Mathlib.Omega.{arith}
 use Rattle.automata.specs.Machine.{machine}
-use Rattle.automata.proofs.SetLaws.{Walked, BySymbol, walked-start, walked-next, walked-end, lowest-off, moves-add}
+use Rattle.words.proofs.EndLaws.{lowest-off}
+use Rattle.automata.proofs.SetLaws.{Walked, BySymbol, walked-start, walked-next, walked-end, moves-add}
 use borrow.Author.Needs.{needs}
 use Rattle.automata.proofs.moves.Statement.{statement}
 use Rattle.automata.proofs.moves.Tie as tie

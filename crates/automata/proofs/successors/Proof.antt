@@ -1,7 +1,8 @@
 use mathlib.Core.Path.{_≡_}
 use native.Mathlib.Omega.{arith}
 use Rattle.automata.specs.Machine.{stateCount, machine}
-use Rattle.automata.proofs.SetLaws.{Walked, ByState, walked-start, walked-next, walked-end, lowest-off, successors-add, successors-end}
+use Rattle.words.proofs.EndLaws.{lowest-off}
+use Rattle.automata.proofs.SetLaws.{Walked, ByState, walked-start, walked-next, walked-end, successors-add, successors-end}
 use borrow.Author.Needs.{needs}
 use Rattle.automata.proofs.successors.Statement.{statement}
 use Rattle.automata.proofs.successors.Tie as tie

@@ -1,7 +1,8 @@
 use mathlib.Core.Path.{_≡_, sym, _∙_}
 use native.Mathlib.Omega.{arith}
 use Rattle.cat.specs.Gathering.{Gathered}
-use Rattle.cat.proofs.GatherLaws.{lowest-off, gather-turn}
+use Rattle.words.proofs.EndLaws.{lowest-off}
+use Rattle.cat.proofs.GatherLaws.{gather-turn}
 use borrow.Author.Needs.{needs}
 use Rattle.cat.proofs.gather.Statement.{statement}
 use Rattle.cat.proofs.gather.Tie as tie

@@ -1,5 +1,5 @@
 use Prim.Native.Nat.{_≤_, _-_}
-use Rattle.inplace.proofs.Loops.{not-false}
+use Rattle.laws.proofs.ListLaws.{not-false}
 use Rattle.measure.specs.TidyRows.{TidyRows}
 use borrow.Author.Needs.{needs}
 use Rattle.measure.proofs.run.Statement.{statement}

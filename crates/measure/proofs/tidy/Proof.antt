@@ -2,7 +2,7 @@ use mathlib.Core.Path.{_≡_, subst}
 use mathlib.Core.Bool.{false≢true}
 use Prim.Native.Nat.{ℕ, _≤_, _-_}
 use native.Mathlib.Omega.{arith}
-use Rattle.inplace.proofs.Loops.{not-false}
+use Rattle.laws.proofs.ListLaws.{not-false}
 use Rattle.measure.specs.TidyRows.{TidyRows}
 use Rattle.measure.proofs.StepLaws.{tidy-none, tidy-next}
 use borrow.Author.Needs.{needs}

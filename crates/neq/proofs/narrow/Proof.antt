@@ -1,6 +1,6 @@
 use mathlib.Core.Path.{sym, _∙_}
 use Rattle.laws.proofs.TableLaws.{words-of}
-use Rattle.inplace.proofs.Loops.{not-false, not-true}
+use Rattle.laws.proofs.ListLaws.{not-false, not-true}
 use Rattle.neq.proofs.WithoutLaws.{neq-several, neq-first, neq-second}
 use borrow.Author.Needs.{needs}
 use Rattle.neq.proofs.narrow.Statement.{statement}

@@ -1,7 +1,7 @@
 use native.Mathlib.Omega.{arith}
 use mathlib.Core.Path.{sym, _∙_}
 use Rattle.laws.proofs.TableLaws.{words-of}
-use Rattle.inplace.proofs.Loops.{not-false, not-true}
+use Rattle.laws.proofs.ListLaws.{not-false, not-true}
 use Rattle.inplace.proofs.Parts.{tidy-lengths}
 use Rattle.neq.proofs.WithoutLaws.{without-length, without-all, without-ready, without-shorter}
 use Rattle.neq.proofs.WithoutLaws.{without-symbol, without-longer, without-two, without-struck}

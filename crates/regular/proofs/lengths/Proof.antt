@@ -1,7 +1,8 @@
 use mathlib.Core.Path.{_≡_}
 use mathlib.Core.Logic.{⊎-elim}
 use native.Mathlib.Omega.{arith}
-use Rattle.automata.proofs.SetLaws.{Walked, low-all, walked-start, walked-end, lowest-off}
+use Rattle.words.proofs.EndLaws.{lowest-off}
+use Rattle.automata.proofs.SetLaws.{Walked, low-all, walked-start, walked-end}
 use Rattle.regular.proofs.RegularLaws.{Ending, lengths-skip, lengths-add}
 use borrow.Author.Needs.{needs}
 use Rattle.regular.proofs.lengths.Statement.{statement}

@@ -2,7 +2,8 @@ use mathlib.Core.Path.{_≡_}
 use mathlib.Core.Logic.{⊎-elim}
 use native.Mathlib.Omega.{arith}
 use Rattle.automata.specs.Machine.{stateCount, machine}
-use Rattle.automata.proofs.SetLaws.{Walked, walked-start, walked-next, walked-end, lowest-off}
+use Rattle.words.proofs.EndLaws.{lowest-off}
+use Rattle.automata.proofs.SetLaws.{Walked, walked-start, walked-next, walked-end}
 use Rattle.regular.proofs.RegularLaws.{Leading, symbols-skip, symbols-add}
 use borrow.Author.Needs.{needs}
 use Rattle.regular.proofs.symbols.Statement.{statement}

@@ -1,7 +1,7 @@
 use mathlib.Core.Path.{refl}
 use mathlib.Core.Logic.{inl}
 use Rattle.laws.proofs.TableLaws.{words-of}
-use Rattle.inplace.proofs.Loops.{not-true, not-false}
+use Rattle.laws.proofs.ListLaws.{not-true, not-false}
 use Rattle.steps.proofs.StepLaws.{left-inside, left-cleared}
 use borrow.Author.Needs.{needs}
 use Rattle.steps.proofs.apply.Statement.{statement}

@@ -1,5 +1,5 @@
 use Rattle.laws.proofs.TableLaws.{words-of}
-use Rattle.inplace.proofs.Loops.{not-true, not-false}
+use Rattle.laws.proofs.ListLaws.{not-true, not-false}
 use Rattle.steps.proofs.StepLaws.{step-inside, any-none, narrow-asks, any-narrowed}
 use borrow.Author.Needs.{needs}
 use Rattle.steps.proofs.narrow_any.Statement.{statement}

@@ -3,7 +3,7 @@ use mathlib.Core.Bool.{true}
 use Prim.Native.Nat.{_-_, _≤_}
 use native.Mathlib.Omega.{arith}
 use lib.ListN.{length, take}
-use Rattle.inplace.proofs.Loops.{not-true, not-false}
+use Rattle.laws.proofs.ListLaws.{not-true, not-false}
 use Rattle.steps.specs.Names.{Tidies}
 use Rattle.steps.proofs.TidyLaws.{tidies-none, next-inside, tidies-turn, tidies-stop, tidies-end}
 use borrow.Author.Needs.{needs}

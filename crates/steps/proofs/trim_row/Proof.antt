@@ -1,4 +1,4 @@
-use Rattle.inplace.proofs.Loops.{not-true, not-false}
+use Rattle.laws.proofs.ListLaws.{not-true, not-false}
 use Rattle.steps.proofs.TrimSteps.{trim-blanked}
 use borrow.Author.Needs.{needs}
 use Rattle.steps.proofs.trim_row.Statement.{statement}

@@ -1,6 +1,7 @@
 use mathlib.Core.Path.{_≡_}
 use native.Mathlib.Omega.{arith}
-use Rattle.automata.proofs.SetLaws.{Walked, low-all, walked-start, walked-end, walked-add, lowest-off}
+use Rattle.words.proofs.EndLaws.{lowest-off}
+use Rattle.automata.proofs.SetLaws.{Walked, low-all, walked-start, walked-end, walked-add}
 use Rattle.automata.proofs.KindLaws.{OfKind}
 use borrow.Author.Needs.{needs}
 use Rattle.automata.proofs.columns.all_of.Statement.{statement}

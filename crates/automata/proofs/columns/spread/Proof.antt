@@ -1,6 +1,6 @@
 use mathlib.Core.Path.{_≡_}
 use native.Mathlib.Omega.{arith}
-use Rattle.automata.proofs.SetLaws.{lowest-off}
+use Rattle.words.proofs.EndLaws.{lowest-off}
 use Rattle.automata.proofs.KindLaws.{Spreading, spread-start, spread-turn, spread-end}
 use borrow.Author.Needs.{needs}
 use Rattle.automata.proofs.columns.spread.Statement.{statement}

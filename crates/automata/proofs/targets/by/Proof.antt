@@ -1,7 +1,8 @@
 use mathlib.Core.Path.{_≡_}
 use mathlib.Core.Logic.{⊎-elim}
 use Rattle.automata.specs.Machine.{machine}
-use Rattle.automata.proofs.SetLaws.{Walked, walked-start, walked-next, walked-end, lowest-off}
+use Rattle.words.proofs.EndLaws.{lowest-off}
+use Rattle.automata.proofs.SetLaws.{Walked, walked-start, walked-next, walked-end}
 use Rattle.automata.proofs.TargetLaws.{ByInto, by-skip, by-add}
 use native.Mathlib.Omega.{arith}
 use borrow.Author.Needs.{needs}

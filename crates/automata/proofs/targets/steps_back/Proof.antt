@@ -2,7 +2,8 @@ use mathlib.Core.Path.{_≡_}
 use mathlib.Core.Logic.{⊎-elim}
 use Rattle.automata.specs.Machine.{stateCount, machine}
 use Rattle.automata.specs.StateSets.{Targets}
-use Rattle.automata.proofs.SetLaws.{Walked, ByEntering, walked-start, walked-next, walked-end, lowest-off, entering-skip, entering-add}
+use Rattle.words.proofs.EndLaws.{lowest-off}
+use Rattle.automata.proofs.SetLaws.{Walked, ByEntering, walked-start, walked-next, walked-end, entering-skip, entering-add}
 use Rattle.automata.proofs.TargetLaws.{EnteringBy, entries-within, entries-turn, entries-end}
 use native.Mathlib.Omega.{arith}
 use borrow.Author.Needs.{needs}

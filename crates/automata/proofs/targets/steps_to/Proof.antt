@@ -2,7 +2,8 @@ use mathlib.Core.Path.{_≡_, refl}
 use Prim.Native.Nat.{_^_, _<_}
 use Rattle.automata.specs.Machine.{stateCount, machine}
 use Rattle.automata.specs.StateSets.{Targets}
-use Rattle.automata.proofs.SetLaws.{Walked, ByState, walked-start, walked-next, walked-end, lowest-off, successors-add, successors-end}
+use Rattle.words.proofs.EndLaws.{lowest-off}
+use Rattle.automata.proofs.SetLaws.{Walked, ByState, walked-start, walked-next, walked-end, successors-add, successors-end}
 use Rattle.automata.proofs.TargetLaws.{successors-all}
 use native.Mathlib.Omega.{arith}
 use lib.Bits.{or-lt}
