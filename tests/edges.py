@@ -143,6 +143,7 @@ EMPTY = string()
 # ---- Step: (what is tried, file, number of the step, lent table, answer, table afterwards; None where it is untouched)
 
 CAT, LEN = (4, 0, 1, 2), (6, 0, 0, 0)
+PART = over(4, 2, 1, [(5, 0, 1, 0)])
 PARITY = automaton(2, 2, accepting=1, moves=[1, 0, 0, 1])
 X14, Y14, Z14, N14 = row({1, 2}, {0, 1}, {0, 1}), row({0, 1}, {1}), row({2}, {0}, {0, 1}), {0, 1, 2, 3}
 P14 = problem(2, [X14, Y14, Z14], [N14], [CAT, LEN])
@@ -154,7 +155,8 @@ SETTLED14 = table([row({1, 2}, {0}, {0, 1}), Y14, Z14], [{1, 2}])
 SOLVED14 = table([string(0), string(1), string(0, 1)], [{1}])
 
 P2X, P2Y = row({2, 3}, {1, 2, 3}, {3}, {1, 2, 3}), row({1, 2, 3}, {1, 2}, {1, 2}, {1, 2})
-FULL63 = row({63}, *[{0}] * 63)
+FULL62, FULL63 = string(*[0] * 62), string(*[0] * 63)
+UP_TO_62 = row({61, 62}, *[{0}] * 62)
 HOLE63 = row({63}, *[{0}] * 39, (), *[{0}] * 23)
 PLAIN = over(4, 1, 1, [])
 MARKS = [MARK] * 65
@@ -176,10 +178,24 @@ STEPS = [
     ("P7 Rev", over(4, 2, 0, [(3, 0, 1, 0)]), 0, table([row({2}, {0}, {0, 1}), row({2}, {1, 2}, {0, 2})]), "struck 3", table([string(0, 1), string(1, 0)])),
     ("P8 Cat", over(4, 3, 0, [CAT]), 0, table([string(0), EMPTY, string(0)]), "struck 0", None),
     ("P9 Cat", over(4, 3, 0, [CAT]), 0, table([row({0, 1}, {0}), row({0, 1}, {1}), row({1}, {1})]), "struck 3", table([EMPTY, string(1), string(1)])),
-    ("P10 Sub", over(4, 2, 1, [(5, 0, 1, 0)]), 0, table([string(0, 1), string(1)], [{0, 1, 2, 3}]), "struck 3", table([string(0, 1), string(1)], [{2}])),
-    ("P11 Sub", over(4, 2, 1, [(5, 0, 1, 0)]), 0, table([EMPTY, EMPTY], [{1}]), "struck 3", table([NOTHING, NOTHING], [()])),
+    ("P10 Sub", PART, 0, table([string(0, 1), string(1)], [{0, 1, 2, 3}]), "struck 3", table([string(0, 1), string(1)], [{2}])),
+    ("P11 Sub", PART, 0, table([EMPTY, EMPTY], [{1}]), "struck 0", None),
     ("P12 Len", over(4, 1, 1, [LEN]), 0, table([row({0, 3}, {0}, {0}, {0})], [{1, 3}]), "struck 2", table([string(0, 0, 0)], [{3}])),
     ("P13 Regular", over(2, 1, 0, [(7, 0, 0, 0)], [PARITY]), 0, row({1, 2}, {0}, {0, 1}), "struck 2", string(0, 0)),
+    # an empty part is met at 1 to one place after the last symbol
+    ("an empty part of the empty string, not at 0", PART, 0, table([EMPTY, EMPTY], [{0}]), "struck 3", table([NOTHING, NOTHING], [()])),
+    ("an empty part of the empty string, at 0 or 1", PART, 0, table([EMPTY, EMPTY], [{0, 1}]), "struck 1", table([EMPTY, EMPTY], [{1}])),
+    ("an empty part of the empty string, not at 2", PART, 0, table([EMPTY, EMPTY], [{2}]), "struck 3", table([NOTHING, NOTHING], [()])),
+    ("an empty part of 01, at any number", PART, 0, table([string(0, 1), EMPTY], [range(64)]), "struck 61", table([string(0, 1), EMPTY], [{1, 2, 3}])),
+    ("an empty part of 01, not at 4", PART, 0, table([string(0, 1), EMPTY], [{4}]), "struck 5", table([NOTHING, NOTHING], [()])),
+    ("an empty part at 2 of a string of 0 or 2 places", PART, 0, table([row({0, 2}, {0}, {1}), EMPTY], [{2}]), "struck 1", table([string(0, 1), EMPTY], [{2}])),
+    ("an empty part at 1 of a string of 0 or 1 places", PART, 0, table([row({0, 1}, {0}), EMPTY], [{1}]), "struck 0", None),
+    ("1 or nothing as a part of 01, at 2 or 3", PART, 0, table([string(0, 1), row({0, 1}, {1})], [{2, 3}]), "struck 0", None),
+    ("1 or nothing as a part of 01, at 3", PART, 0, table([string(0, 1), row({0, 1}, {1})], [{3}]), "struck 2", table([string(0, 1), EMPTY], [{3}])),
+    ("1 as a part of 01, not at 3", PART, 0, table([string(0, 1), string(1)], [{3}]), "struck 6", table([NOTHING, NOTHING], [()])),
+    ("an empty part at 63 of a string of 62 places", PART, 0, table([FULL62, EMPTY], [{63}]), "struck 0", None),
+    ("an empty part at 63 of a string of 61 or 62 places", PART, 0, table([UP_TO_62, EMPTY], [{63}]), "struck 1", table([FULL62, EMPTY], [{63}])),
+    ("an empty part of 63 places, 64 being no number", PART, 0, table([FULL63, EMPTY], [range(64)]), "struck 1", table([FULL63, EMPTY], [range(1, 64)])),
     ("a string of 63 places", over(1, 1, 0, []), 0, FULL63, "struck 0", None),
     ("a string of 63 places with nothing at place 40", over(1, 1, 0, []), 0, HOLE63, "struck 63", NOTHING),
     ("lengths past the places", over(1, 1, 0, []), 0, row({0, 2, 5, 63}, {0}, {0}), "struck 2", row({0, 2}, {0}, {0})),
@@ -214,6 +230,7 @@ SETTLES = [
     ("symbols past the longest string", over(4, 1, 0, []), row({0}, {1}), "rounds 2 true", EMPTY),
     ("a string with no length", over(4, 1, 0, []), row((), {1}), "rounds 2 false", NOTHING),
     ("a number with no value", over(4, 0, 2, []), table([], [{5}, ()]), "rounds 1 false", None),
+    ("an empty part of the empty string, at 1", PART, table([EMPTY, EMPTY], [{1}]), "rounds 1 true", None),
     ("a string of 63 places", over(1, 1, 0, []), FULL63, "rounds 1 true", None),
     ("a lent table a word short", PLAIN, MARKS[1:], "refused 9", None),
     ("a lent table a word long", PLAIN, MARKS + [MARK], "refused 9", None),
@@ -276,6 +293,8 @@ SEARCHES = [
     ("a string of 62 or 63 places", problem(1, [row({62, 63}, *[{0}] * 63)]), 2, 192, 64, "found 2", string(*[0] * 62)),
     ("a length 63 past the places", problem(1, [row({2, 63}, {0}, {0}, (), {0})]), 1, 192, 64, "found 1", string(0, 0)),
     ("k 64 and symbol 63", problem(64, [row({1}, {62, 63})], records=[]), 2, 192, 64, "found 2", string(62)),
+    ("an empty suffix behind 01", problem(4, [string(0, 1), EMPTY], [{3}], [(5, 0, 1, 0)]), 1, 387, 129, "found 1", table([string(0, 1), EMPTY], [{3}])),
+    ("an empty suffix further behind 01", problem(4, [string(0, 1), EMPTY], [{4}], [(5, 0, 1, 0)]), 1, 387, 129, "none 1", None),
 ]
 
 # ---- refusals 1 to 8 come first: the lent table and the room have the wrong size for each of these files, and there is no such step

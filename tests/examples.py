@@ -33,6 +33,7 @@ EXAMPLES = {
     "parts_first": ("found 9", {"name": "aaa0000", "course": "aaa", "other_course": "aaa0"}),
     "name_first": ("found 34695", {"name": "aaa0000", "course": "aaa", "other_course": "aaa0"}),
     "injective": ("none 1", {}),
+    "suffix": ("found 8", {"name": "aaaa-000", "signer": "aaaa", "counter": "-000", "tag": "", "place": 9}),
 }
 CUT = {"broken": 1024}  # bytes of the packed file that the problem file has
 
@@ -71,7 +72,7 @@ def accepts(problem, automaton, text):
 
 
 def part_at(x, y, n):
-    return 1 <= n <= len(x) and x[n - 1 : n - 1 + len(y)] == y
+    return 1 <= n <= len(x) + 1 and x[n - 1 : n - 1 + len(y)] == y
 
 
 def met(problem, solution):
@@ -181,7 +182,8 @@ def injective_texts():
 
 def changed_texts():
     """What the other texts say of changes to them, in the same form."""
-    rule, counter, budget = "\n".join(statements("rule")[:-1]), "\n".join(statements("counter")), "\n".join(statements("budget"))
+    rule = "\n".join(statements("rule")[:-1])
+    counter, budget, suffix = ("\n".join(statements(name)) for name in ("counter", "budget", "suffix"))
     one_width = counter.replace("number width_1080 in 1..5\n", "").replace("width_1080", "width_master")
     yield "rule.text without its last line", rule, path("renditions", "answer").read_text()
     yield "signers.text with a signer called hd", "\n".join(statements("signers")).replace("eva", "hd"), "found "
@@ -189,6 +191,8 @@ def changed_texts():
     yield "counter.text with a dash behind the rendition", counter.replace('"-1080"', '"-1080-"'), "none "
     yield "budget.text with five digits", budget.replace("length 8", "length 5"), "none 11111\n"
     yield "the whole file of broken.text", "\n".join(statements("broken")), "none "
+    yield "suffix.text with a tag that is never missing", suffix.replace("tag length 0, 4..8", "tag length 4..8"), "none 1\n"
+    yield "suffix.text with a tag at place 10", suffix.replace("place in 9", "place in 10"), "none 1\n"
     yield "budget.text with one automaton", budget.replace("accepting", "state").replace("regular serial odd", ""), "none 1\n"
 
 

@@ -6,8 +6,9 @@ use crate::entries;
 use crate::lent::{Lent, Memory};
 use crate::marked::{Held, Marked};
 use crate::random::Random;
-use crate::tally::{Event, Tally};
+use crate::tally::{self, Event, Tally};
 use cobleskeg::SETTLE;
+use second::domain::number_place;
 use second::relations::Relation;
 use second::Outcome;
 
@@ -72,6 +73,9 @@ impl Calls<'_> {
         if struck > 0 {
             self.tally.struck[self.relations.get(j).map_or(0, kind)] += 1;
         }
+        if let Some(left) = self.relations.get(j).and_then(|relation| part(relation, table.theirs())) {
+            self.tally.part(left);
+        }
         if self.try_choices {
             self.try_choices(j, words, struck, &mut table)?;
         }
@@ -135,6 +139,11 @@ impl Calls<'_> {
         if room_words >= 3 * words + 1000 && theirs.is_ok() {
             self.tally.came_up(Event::WideRoom);
         }
+        let answer = table.theirs();
+        let mut parts = self.relations.iter().filter_map(|relation| part(relation, answer));
+        if matches!(theirs, Ok(Outcome::Found(_))) && parts.any(|[x, _, n]| tally::is_past(x, n)) {
+            self.tally.came_up(Event::SolvedPast);
+        }
         Ok(theirs.ok())
     }
 
@@ -182,4 +191,10 @@ fn kind(relation: &Relation) -> usize {
         Relation::Len(..) => 6,
         Relation::Regular(..) => 7,
     }
+}
+
+/// The lengths of X, those of Y and the places N that a table has, where the constraint is Sub. There are fewer numbers than words in a row.
+fn part(relation: &Relation, table: &[u64]) -> Option<[u64; 3]> {
+    let &Relation::Sub(x, y, n) = relation else { return None };
+    Some([table[64 * x], table[64 * y], table[number_place(table.len() / 64, n)]])
 }

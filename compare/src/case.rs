@@ -6,7 +6,7 @@ use crate::kind::{Kind, COSTLY_EVERY};
 use crate::measure::Measure;
 use crate::random::Random;
 use crate::trees::{self, Known};
-use crate::{generate, hard, late, noise, oversized, templates};
+use crate::{generate, hard, late, noise, oversized, suffix, templates};
 use std::sync::OnceLock;
 
 /// The sort of a known tree changes after so many cases: of those that come up in any run the first is deep, the second bushy, and so on.
@@ -42,6 +42,7 @@ fn with_tree((draft, known): (Draft, Known)) -> (Vec<u8>, Option<Known>) {
 fn file(kind: Kind, random: &mut Random) -> Vec<u8> {
     match kind {
         Kind::Small => generate::small(random).bytes(),
+        Kind::Suffix => suffix::optional(random).bytes(),
         Kind::Large => generate::large(random).bytes(),
         Kind::Limits => generate::limits(random).bytes(),
         Kind::Templates => templates::clash(random).bytes(),

@@ -76,8 +76,9 @@ fn loose(random: &mut Random, shape: &Shape, mut draft: Draft) -> Draft {
 /// A solution first, then constraints that it meets, and domains around it.
 fn planted(random: &mut Random, shape: &Shape, mut draft: Draft) -> Draft {
     let strings = values(random, shape);
-    let lengths: Vec<usize> = strings.iter().map(Vec::len).chain([1]).collect();
-    let numbers: Vec<usize> = (0..shape.numbers).map(|_| *random.pick(&lengths)).collect();
+    // Lengths, and the places just past the ends, where an empty part may start.
+    let fitting: Vec<usize> = strings.iter().flat_map(|x| [x.len(), x.len() + 1]).filter(|&n| n < LIMIT).chain([1]).collect();
+    let numbers: Vec<usize> = (0..shape.numbers).map(|_| *random.pick(&fitting)).collect();
     draft.records = met(random, shape, &draft, &strings, &numbers);
     let share = random.between(1, 7);
     let width = random.below(4);
@@ -115,8 +116,8 @@ fn values(random: &mut Random, shape: &Shape) -> Vec<Vec<u8>> {
                 0 => string = x,
                 1 => string = x.into_iter().rev().collect(),
                 2 | 3 if x.len() + y.len() <= shape.longest => string = [x, y].concat(),
-                4 if !x.is_empty() => {
-                    let from = random.below(x.len());
+                4 => {
+                    let from = random.below(x.len() + 1);
                     string = x[from..random.between(from, x.len())].to_vec();
                 }
                 _ => {}

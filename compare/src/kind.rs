@@ -9,6 +9,7 @@ pub const COSTLY_EVERY: u64 = 5000;
 #[derive(Clone, Copy, PartialEq, Debug)]
 pub enum Kind {
     Small,
+    Suffix,
     Large,
     Limits,
     Templates,
@@ -28,8 +29,9 @@ pub enum Kind {
 
 impl Kind {
     /// In the order above.
-    pub const ALL: [Kind; 16] = [
+    pub const ALL: [Kind; 17] = [
         Kind::Small,
+        Kind::Suffix,
         Kind::Large,
         Kind::Limits,
         Kind::Templates,
@@ -50,6 +52,7 @@ impl Kind {
     pub fn name(self) -> &'static str {
         match self {
             Kind::Small => "small",
+            Kind::Suffix => "optional suffixes",
             Kind::Large => "large",
             Kind::Limits => "at the limits",
             Kind::Templates => "templates",
@@ -71,7 +74,8 @@ impl Kind {
     /// In how many of 10,000 cases it is picked. The costly kinds are rare, since one of them takes as long as hundreds of small ones.
     fn share(self) -> usize {
         match self {
-            Kind::Small => 3680,
+            Kind::Small => 3480,
+            Kind::Suffix => 200,
             Kind::Large => 250,
             Kind::Limits => 70,
             Kind::Templates => 700,

@@ -39,6 +39,7 @@ mod program;
 mod random;
 mod rules;
 mod solution;
+mod suffix;
 mod tables;
 mod tally;
 mod templates;

@@ -3,6 +3,7 @@
 use crate::kind::Kind;
 use crate::patterns::Texts;
 use crate::trees::{Shape, BUSHY, DEEP, FAR};
+use second::domain::highest;
 use second::file::LARGEST_FILE;
 use second::Outcome;
 use std::fmt::Display;
@@ -24,6 +25,11 @@ pub enum Event {
     DeepTree,
     BushyTree,
     FarBack,
+    PastLongest,
+    PastShortest,
+    Past62,
+    Past63,
+    SolvedPast,
     OversizedLayout,
     OversizedAutomata,
     Pieces,
@@ -31,7 +37,7 @@ pub enum Event {
 }
 
 /// By the event; the counts behind "beyond" are what the kinds of cases without long chains and known trees reach.
-const EVENTS: [&str; 14] = [
+const EVENTS: [&str; 19] = [
     "rounds beyond 34",
     "found beyond node 549",
     "none beyond 2047 nodes",
@@ -42,6 +48,11 @@ const EVENTS: [&str; 14] = [
     "trees of 48 levels or more",
     "trees with 48 children or more at a node",
     "trees searched back over two strings or more at once",
+    "places kept for an empty part past the longest string",
+    "lengths kept for an empty part past the shortest string",
+    "place 63 kept for an empty part past a string of 62",
+    "empty parts of a string of 63",
+    "solutions with an empty part past the end",
     "files beyond the largest refused by 4",
     "files beyond the largest refused by 5",
     "inputs of the program in pieces",
@@ -124,6 +135,21 @@ impl Tally {
     pub fn tree(&mut self, shape: Shape) {
         for (far, event) in [(shape.levels >= DEEP, Event::DeepTree), (shape.widest >= BUSHY, Event::BushyTree), (shape.back >= FAR, Event::FarBack)] {
             if far {
+                self.came_up(event);
+            }
+        }
+    }
+
+    /// A step of Sub that leaves these lengths of X, lengths of Y and places N. Just past an X only an empty Y can start: nothing else keeps a place past the
+    /// longest X, nor an X that ends before the first place.
+    pub fn part(&mut self, [x, y, n]: [u64; 3]) {
+        for (kept, event) in [
+            (is_past(x, n), Event::PastLongest),
+            (x != 0 && n.trailing_zeros() == x.trailing_zeros() + 1, Event::PastShortest),
+            (is_past(x, n) && highest(x) == 62, Event::Past62),
+            (x == 1 << 63 && y & 1 == 1, Event::Past63),
+        ] {
+            if kept {
                 self.came_up(event);
             }
         }
@@ -214,6 +240,11 @@ impl Tally {
     }
 }
 
+/// Whether the place just past the longest X is among the places.
+pub fn is_past(x: u64, n: u64) -> bool {
+    n >> highest(x) >> 1 & 1 == 1
+}
+
 pub fn named(names: &[impl Display], counts: &[u64]) -> Vec<(String, u64)> {
     names.iter().map(ToString::to_string).zip(counts.iter().copied()).collect()
 }
@@ -277,6 +308,24 @@ mod tests {
         tally.tree(Shape { levels: DEEP, ..Shape::default() });
         assert_eq!([Event::DeepTree, Event::BushyTree, Event::FarBack].map(|event| tally.events[event as usize]), [2, 1, 1]);
         assert!(Tally::default().missing(false).contains(&"far out: trees of 48 levels or more".to_string()));
+    }
+
+    #[test]
+    fn parts_are_counted_past_the_end() {
+        let counted = |x: u64, y: u64, n: u64| {
+            let mut tally = Tally::default();
+            tally.part([x, y, n]);
+            [Event::PastLongest, Event::PastShortest, Event::Past62, Event::Past63].map(|event| tally.events[event as usize])
+        };
+        assert_eq!(counted(0, 0, 0), [0, 0, 0, 0]);
+        assert_eq!(counted(1, 1, 0b10), [1, 1, 0, 0]);
+        assert_eq!(counted(0b101, 0b11, 0b1010), [1, 1, 0, 0]);
+        assert_eq!(counted(0b101, 0b11, 0b110), [0, 1, 0, 0]);
+        assert_eq!(counted(0b110, 0b11, 0b1010), [1, 0, 0, 0]);
+        assert_eq!(counted(0b110, 0b11, 0b110), [0, 0, 0, 0]);
+        assert_eq!(counted(1 << 62, 1, u64::MAX - 1), [1, 0, 1, 0]);
+        assert_eq!(counted(1 << 63, 1, u64::MAX - 1), [0, 0, 0, 1]);
+        assert_eq!(counted(1 << 63, 0b10, 1 << 63), [0, 0, 0, 0]);
     }
 
     #[test]

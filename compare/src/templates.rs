@@ -136,7 +136,7 @@ fn hold(random: &mut Random, draft: &mut Draft, string: u8, piece: &[u8], rule: 
     }
 }
 
-/// One string more: another name, the name read backwards, or a part of it at an unknown place.
+/// One string more: another name, the name read backwards, or a part of it at an unknown place. The part may be empty, and may start just past the name.
 fn relate(random: &mut Random, draft: &mut Draft, whole: u8, name: &[u8]) {
     let symbols = below(draft.symbols);
     match random.below(4) {
@@ -148,9 +148,10 @@ fn relate(random: &mut Random, draft: &mut Draft, whole: u8, name: &[u8]) {
             let backwards = draft.string(any(0, 24, symbols));
             draft.records.push([3, whole, backwards, 0]);
         }
-        2 if !name.is_empty() => {
-            let from = random.below(name.len());
-            let (inside, place) = (draft.string(just(&name[from..random.between(from, name.len())])), draft.number(below(LIMIT)));
+        2 => {
+            let from = random.below(name.len() + 1);
+            let inside = draft.string(just(&name[from..random.between(from, name.len())]));
+            let place = draft.number(*random.pick(&[below(LIMIT), !below(from + 1)]));
             draft.sub(whole, inside, place);
         }
         _ => {}

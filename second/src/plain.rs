@@ -160,8 +160,8 @@ fn sub(x: &Row, y: &Row, numbers: u64) -> Kept {
             continue;
         }
         for m in bits(y[0]) {
-            // X must reach place n, and the last place of Y.
-            let least = if m == 0 { n } else { n + m - 1 };
+            // X must reach the last place of Y; for an empty Y the one before n.
+            let least = n + m - 1;
             if least > 63 || (1..=m).any(|j| x[n + j - 1] & y[j] == 0) {
                 break; // no longer Y either
             }

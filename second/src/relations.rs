@@ -84,11 +84,9 @@ fn is_reverse(x: &[u8], y: &[u8]) -> bool {
     x == backwards
 }
 
-/// Whether y is the part of x that starts at place n.
+/// Whether y is the part of x that starts at place n. One bound is enough:
+/// where y is empty it says that "an empty Y is met at N from 1 to |X| + 1".
 fn is_part(x: &[u8], y: &[u8], n: usize) -> bool {
-    if y.is_empty() {
-        return 1 <= n && n <= x.len();
-    }
     1 <= n && n + y.len() - 1 <= x.len() && &x[n - 1..n - 1 + y.len()] == y
 }
 

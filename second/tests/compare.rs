@@ -98,11 +98,8 @@ fn solution(
             (vec![x, y, z], 0)
         }
         5 => {
-            if x.is_empty() {
-                return None;
-            }
-            let n = 1 + random.below(x.len());
-            let m = random.below(x.len() - n + 2);
+            let n = 1 + random.below((x.len() + 1).min(63));
+            let m = random.below(x.len() + 2 - n);
             let part = x[n - 1..n - 1 + m].to_vec();
             (vec![x, part], n)
         }
@@ -489,7 +486,7 @@ fn lean_to_a_search(random: &mut Random, draft: &mut Draft, longest: usize) {
         draft.rows[x] = row;
         chosen.push(string);
     }
-    let numbers: Vec<usize> = (0..2).map(|_| 1 + random.below(longest)).collect();
+    let numbers: Vec<usize> = (0..2).map(|_| 1 + random.below(longest + 1)).collect();
     for n in 0..2 {
         draft.numbers[n] = 1 << numbers[n] | subset(random, longest + 1, 1);
     }

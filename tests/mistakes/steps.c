@@ -95,13 +95,29 @@ static void joined(uint64_t *table, size_t x, size_t y, size_t z)
         table[ROW * x + (size_t)highest(table[ROW * x])] = 0;
 }
 
+/* Just past an X only an empty part can start: nothing else keeps the place past the longest X, nor the X that ends before the first place. */
 static void part(uint64_t *table, size_t x, size_t y, uint64_t *number, uint64_t values)
 {
+    uint64_t *lengths = table + ROW * x;
+    uint64_t past = UINT64_C(2) << highest(*lengths), first = *number & -*number;
     if (planted == sub_63 && !one_bit(*number))
         *number &= ~(UINT64_C(1) << 63);
-    int longest = highest(table[ROW * x]);
-    if (planted == sub_empty && longest > 0 && longest < PLACES && (table[ROW * y] & 1))
-        *number |= values & UINT64_C(1) << (longest + 1);
+    if (planted == sub_empty) {
+        *number &= ~past;
+        *lengths &= ~(first >> 1);
+        if (*number == 0) {
+            memset(lengths, 0, 8 * ROW);
+            memset(table + ROW * y, 0, 8 * ROW);
+        }
+    }
+    if (planted == sub_empty_past && (table[ROW * y] & 1))
+        *number |= values & past << 1;
+    if (planted == sub_empty_0 && first == 2 && !one_bit(*lengths))
+        *lengths &= ~UINT64_C(1);
+    if (planted == sub_empty_62 && past >> 63 && !one_bit(*number))
+        *number &= ~past;
+    if (planted == sub_empty_63 && past == 0 && (table[ROW * y] & 1))
+        *number |= values & 1;
 }
 
 static void measured(uint64_t *table, size_t x, uint64_t *number)

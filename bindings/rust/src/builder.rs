@@ -164,7 +164,7 @@ impl Builder {
         self.constrain(4, &[x, y, z], None)
     }
 
-    /// `y` is the part of `x` that starts at place `n`, counted from 1.
+    /// `y` is the part of `x` that starts at place `n`, counted from 1; an empty `y` starts at 1 to one place after the last symbol of `x`.
     pub fn sub(&mut self, x: StringHandle, y: StringHandle, n: NumberHandle) -> Result<(), BuildError> {
         self.constrain(5, &[x, y], Some(n.0))
     }

@@ -15,6 +15,7 @@ pub mod Supports
 pub mod PlaceLaws
 pub mod RenameLaws
 pub mod NeqLaws
+pub mod PartLaws
 pub mod RoundLaws
 pub mod SolutionLaws
 pub mod ChildLaws

@@ -109,9 +109,9 @@ unfoldable pub p10 : Case
 p10 = stepCase (fileFrom 4 (sub 0 1 0 ∷ []) [] (quote (0 ∷ 1 ∷ []) ∷ quote (1 ∷ []) ∷ []) ((0 ∷ 1 ∷ 2 ∷ 3 ∷ []) ∷ []))
     3 (quote (0 ∷ 1 ∷ []) ∷ quote (1 ∷ []) ∷ []) ((2 ∷ []) ∷ [])
 
--- P11 Sub: X and Y the empty string, N {1}: all three lose everything
+-- P11 Sub: X and Y the empty string, N {1}; by ticket 2 "P11 then strikes nothing"
 unfoldable pub p11 : Case
-p11 = stepCase (fileFrom 4 (sub 0 1 0 ∷ []) [] (quote [] ∷ quote [] ∷ []) ((1 ∷ []) ∷ [])) 3 (empty ∷ empty ∷ []) ([] ∷ [])
+p11 = stepCase (fileFrom 4 (sub 0 1 0 ∷ []) [] (quote [] ∷ quote [] ∷ []) ((1 ∷ []) ∷ [])) 0 (quote [] ∷ quote [] ∷ []) ((1 ∷ []) ∷ [])
 
 -- P12 Len: X {0,3}, places 1 to 3 each {0}; N {1,3}: X "000", N {3}
 unfoldable pub p12 : Case

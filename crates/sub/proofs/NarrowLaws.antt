@@ -62,7 +62,6 @@ module _ (T : List ℕ) (bd : Words T) (x y i : ℕ) (fx : 64 * x + 64 ≤ i) (f
         apart = apart;
         tidy = tx;
         some = omega arith;
-        small = low .small;
         alive = λ b e. started .sound b e .1;
       }
 

@@ -22,8 +22,7 @@ use Rattle.laws.proofs.RowLaws.{short-of}
 use Rattle.laws.proofs.Supports.{moved-support}
 use Rattle.inplace.specs.InTable.{Tidy}
 use Rattle.inplace.proofs.Tables.{highest-most, bit-some}
-use Rattle.sub.specs.Substrings.{reachOf, Lesser, Alive, Allowed, Fitting, common}
-use Rattle.sub.proofs.ReachLaws.{reach-end}
+use Rattle.sub.specs.Substrings.{Lesser, Alive, Allowed, Fitting, common}
 use Rattle.inplace.proofs.Parts.{tidy-supports}
 
 -- ---- a word without its bits below n
@@ -59,12 +58,12 @@ module _ (ls : ℕ) (f : ℕ → ℕ) where
   rowOf-past : (j : ℕ) → 63 ≤ j → word rowOf (suc j) ≡ 0
   rowOf-past j h = let l = rowOf-length in List·getD-eq-default rowOf 0 (omega arith)
 
--- ---- X: a string of at least reachOf off least symbols, with Y's symbols after off
+-- ---- X: a string of at least off + least symbols, with Y's symbols after off
 
--- w is a string of x, at least end long, that has m symbols that y allows after off symbols
-pub record Holds (x y : List ℕ) (off m end : ℕ) (w : List ℕ) : Type 0 where
+-- w is a string of x that has m symbols that y allows after off symbols
+pub record Holds (x y : List ℕ) (off m : ℕ) (w : List ℕ) : Type 0 where
   pub inside : InRow x w
-  pub long : end ≤ length w
+  pub long : off + m ≤ length w
   pub allowed : (j : ℕ) → j < m → bit (word y (suc j)) (getD w (off + j) 0) ≡ true
 
 module _ (x y : List ℕ) (off least : ℕ) where
@@ -72,7 +71,7 @@ module _ (x y : List ℕ) (off least : ℕ) where
   place j = cond (ltb j off) (word x (suc j)) (cond (ltb j (off + least)) (common x y off (j - off)) (word x (suc j)))
 
   pub wholeRow : List ℕ
-  wholeRow = rowOf (word x 0 / 2 ^ reachOf off least * 2 ^ reachOf off least % 2 ^ 64) place
+  wholeRow = rowOf (word x 0 / 2 ^ (off + least) * 2 ^ (off + least) % 2 ^ 64) place
 
   -- a place lies in the part, or not
   by-place : (P : ℕ → ℕ → Type 0) → ((j : ℕ) → ((i : ℕ) → i < least → j ≢ off + i) → P j (word x (suc j)))
@@ -94,7 +93,7 @@ module _ (x y : List ℕ) (off least : ℕ) where
     pub whole-of : (i a : ℕ) → i < 64 → bit (word wholeRow i) a ≡ true → Allowed x y off least i a
     unfolding wholeRow
     whole-of zero a h e =
-        let t = of-high-bits (word x 0) (reachOf off least) a (ap (λ (w : ℕ). bit w a) (sym (rowOf-first _ place)) ∙ e) in
+        let t = of-high-bits (word x 0) (off + least) a (ap (λ (w : ℕ). bit w a) (sym (rowOf-first _ place)) ∙ e) in
         record { own = t .1; long = λ q. t .0; part = λ j l q. absurd (omega arith) }
     whole-of (suc j) a h e = by-place (λ j w. bit w a ≡ true → Allowed x y off least (suc j) a)
         (λ j n q. record { own = q; long = λ p. absurd (omega arith); part = λ i l p. absurd (n i l (omega arith)) })
@@ -107,7 +106,7 @@ module _ (x y : List ℕ) (off least : ℕ) where
 
     pub whole-in : (i a : ℕ) → i < 64 → Allowed x y off least i a → bit (word wholeRow i) a ≡ true
     unfolding wholeRow
-    whole-in zero a h t = ap (λ (w : ℕ). bit w a) (rowOf-first _ place) ∙ in-high-bits (word x 0) (reachOf off least) a (bx 0 a (t .own)) (t .long refl)
+    whole-in zero a h t = ap (λ (w : ℕ). bit w a) (rowOf-first _ place) ∙ in-high-bits (word x 0) (off + least) a (bx 0 a (t .own)) (t .long refl)
         (t .own)
     whole-in (suc j) a h t = ap (λ (w : ℕ). bit w a) (rowOf-place _ place j (omega arith)) ∙ by-place (λ j w. Allowed x y off least (suc j) a → bit w a ≡ true)
         (λ j n t. t .own) (λ i l t. and-bit (word x (suc (off + i))) (word y (suc i)) a (t .own) (t .part i l refl)) j t
@@ -120,24 +119,23 @@ module _ (x y : List ℕ) (off least : ℕ) where
         go true q = bx i a (whole-of i a (ltb-true i 64 q) e .own)
         go false q =
             let h = ltb-false i 64 q in
-            let l = rowOf-length (word x 0 / 2 ^ reachOf off least * 2 ^ reachOf off least % 2 ^ 64) place in
+            let l = rowOf-length (word x 0 / 2 ^ (off + least) * 2 ^ (off + least) % 2 ^ 64) place in
             absurd (false≢true (sym (zero-bit a) ∙ ap (λ (w : ℕ). bit w a) (sym (List·getD-eq-default wholeRow 0 (omega arith))) ∙ e))
 
-    of-holding : (w : List ℕ) → InRow wholeRow w → Holds x y off least (reachOf off least) w
+    of-holding : (w : List ℕ) → InRow wholeRow w → Holds x y off least w
     of-holding w i =
         let s = short-of wholeRow whole-words w i .length-short in
         let f = whole-of 0 (length w) (omega arith) (i .length-bit) in
         let at : (j : ℕ) → j < length w → Allowed x y off least (suc j) (getD w j 0) = λ j h. whole-of (suc j) (getD w j 0) (omega arith) (i .symbol-bits j h)
         in
         let k = f .long refl in
-        let r = reach-end off least in
         record {
           inside = record { length-bit = f .own; symbol-bits = λ j h. at j h .own };
           long = k;
           allowed = λ j h. at (off + j) (omega arith) .part j h refl;
         }
 
-    in-holding : (w : List ℕ) → Holds x y off least (reachOf off least) w → InRow wholeRow w
+    in-holding : (w : List ℕ) → Holds x y off least w → InRow wholeRow w
     in-holding w h =
         let s = short-of x bx w (h .inside) .length-short in
         record {
@@ -155,7 +153,6 @@ module _ (x y : List ℕ) (off least : ℕ) where
       whole-tidy =
           let s = tidy .longest .small in
           let k = alive .far in
-          let r = reach-end off least in
           record {
             top = tidy .top;
             longest = record {
@@ -175,13 +172,12 @@ module _ (x y : List ℕ) (off least : ℕ) where
           gone : (i : ℕ) → tidy .top ≤ i → (t : Bool) → ltb i 63 ≡ t → word wholeRow (suc i) ≡ 0
           gone i h true q =
               let k = alive .far in
-              let r = reach-end off least in
               rowOf-place _ place i (ltb-true i 63 q) ∙ by-place (λ j w. tidy .top ≤ j → w ≡ 0) (λ j n l. tidy .gone j l) (λ j l g. absurd (omega arith)) i h
           gone i h false q = rowOf-past _ place i (ltb-false i 63 q)
 
-      pub whole-supports : Supports (Holds x y off least (reachOf off least)) textBit 64 wholeRow
+      pub whole-supports : Supports (Holds x y off least) textBit 64 wholeRow
       unfolding wholeRow
-      whole-supports = moved-support (InRow wholeRow) (Holds x y off least (reachOf off least)) textBit textBit 64 wholeRow
+      whole-supports = moved-support (InRow wholeRow) (Holds x y off least) textBit textBit 64 wholeRow
           (λ w i. (w, of-holding w i, λ j h. refl)) (λ w h. (w, in-holding w h, λ j k. refl))
           (tidy-supports wholeRow whole-tidy whole-words (rowOf-length _ place))
 

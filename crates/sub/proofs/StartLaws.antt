@@ -19,11 +19,10 @@ use Rattle.laws.proofs.ListLaws.{and-true}
 use Rattle.laws.proofs.Supports.{moved-support}
 use Rattle.rows.proofs.MeetLaws.{and-bit}
 use Rattle.inplace.proofs.Tables.{bit-some}
-use Rattle.sub.specs.Substrings.{reachOf, Alive, Fitting}
+use Rattle.sub.specs.Substrings.{Alive, Fitting}
 use Rattle.sub.proofs.PartRows.{Part}
 use Rattle.sub.proofs.TidyLaws.{Longest}
 use Rattle.sub.proofs.RowsAt.{Holds}
-use Rattle.sub.proofs.ReachLaws.{reach-end, reach-some, reach-mono}
 
 -- ---- a string with another laid over it after off symbols
 
@@ -57,7 +56,7 @@ pub record PartAt (x y : List ℕ) (n off : ℕ) (v : Part) : Type 0 where
   pub in-part : InRow y (v .part)
   pub in-start : bit n (v .start) ≡ true
   pub starts : v .start ≡ suc off
-  pub reached : reachOf off (length (v .part)) ≤ length (v .whole)
+  pub reached : off + length (v .part) ≤ length (v .whole)
   pub found : (j : ℕ) → j < length (v .part) → getD (v .whole) (off + j) 0 ≡ getD (v .part) j 0
 
 module _ (x y : List ℕ) (n off : ℕ) where
@@ -70,9 +69,9 @@ module _ (x y : List ℕ) (n off : ℕ) where
         go false q = ltb-false (length w) least q
 
     -- what every choice asks of X
-    least-reached : (v : Part) → PartAt x y n off v → reachOf off least ≤ length (v .whole)
+    least-reached : (v : Part) → PartAt x y n off v → off + least ≤ length (v .whole)
     least-reached v p =
-        let m = reach-mono off least (length (v .part)) (at-least (v .part) (p .in-part)) in
+        let m = at-least (v .part) (p .in-part) in
         let k = p .reached in
         omega arith
 
@@ -81,10 +80,9 @@ module _ (x y : List ℕ) (n off : ℕ) where
     first-part : List ℕ → Part
     first-part w = record { whole = w; part = take least (drop off w); start = suc off }
 
-    of-holds : bit n (suc off) ≡ true → (w : List ℕ) → Holds x y off least (reachOf off least) w → PartAt x y n off (first-part w)
+    of-holds : bit n (suc off) ≡ true → (w : List ℕ) → Holds x y off least w → PartAt x y n off (first-part w)
     unfolding first-part
     of-holds e w h =
-        let r = reach-end off least in
         let k = h .long in
         let ld = length-drop off w in
         let l : length (take least (drop off w)) ≡ least = length-take-le least (drop off w) (omega arith) in
@@ -98,11 +96,11 @@ module _ (x y : List ℕ) (n off : ℕ) where
           };
           in-start = e;
           starts = refl;
-          reached = subst (λ (i : ℕ). reachOf off i ≤ length w) (sym l) k;
+          reached = subst (λ (i : ℕ). off + i ≤ length w) (sym l) k;
           found = λ j g. at j (omega arith);
         }
 
-    in-holds : (v : Part) → PartAt x y n off v → Holds x y off least (reachOf off least) (v .whole)
+    in-holds : (v : Part) → PartAt x y n off v → Holds x y off least (v .whole)
     in-holds v p = record {
       inside = p .in-whole;
       long = least-reached v p;
@@ -111,76 +109,60 @@ module _ (x y : List ℕ) (n off : ℕ) where
           ap (bit (word y (suc j))) (p .found j (omega arith)) ∙ p .in-part .symbol-bits j (omega arith);
     }
 
-    pub wholes-supported : bit n (suc off) ≡ true → (r : List ℕ) → Supports (Holds x y off least (reachOf off least)) textBit 64 r
+    pub wholes-supported : bit n (suc off) ≡ true → (r : List ℕ) → Supports (Holds x y off least) textBit 64 r
         → Supports (PartAt x y n off) (λ v. textBit (v .whole)) 64 r
     unfolding first-part
-    wholes-supported e r = moved-support (Holds x y off least (reachOf off least)) (PartAt x y n off) textBit (λ v. textBit (v .whole)) 64 r
+    wholes-supported e r = moved-support (Holds x y off least) (PartAt x y n off) textBit (λ v. textBit (v .whole)) 64 r
         (λ w h. (first-part w, of-holds e w h, λ i k. refl)) (λ v p. (v .whole, in-holds v p, λ i k. refl))
 
-    -- ---- Y
+    -- ---- N
 
-    module _ (top : ℕ) (longest : Longest x top) where
-      -- a start that a choice has is left
-      pub choice-alive : (v : Part) → PartAt x y n off v → Alive x y off least top
-      choice-alive v p =
-          let k = least-reached v p in
-          let m = longest .most (v .whole) (p .in-whole) in
-          let a = at-least (v .part) (p .in-part) in
-          let r = p .reached in
-          let g = reach-end off (length (v .part)) in
-          record {
-            far = omega arith;
-            filled = λ j h. bit-some _ (getD (v .part) j 0) (and-bit (word x (suc (off + j))) (word y (suc j)) (getD (v .part) j 0)
-                (ap (bit (word x (suc (off + j)))) (sym (p .found j (omega arith))) ∙ p .in-whole .symbol-bits (off + j) (omega arith))
-                (p .in-part .symbol-bits j (omega arith)));
-          }
+    -- a start that a choice has is left
+    pub choice-alive : (top : ℕ) → Longest x top → (v : Part) → PartAt x y n off v → Alive x y off least top
+    choice-alive top longest v p =
+        let k = least-reached v p in
+        let m = longest .most (v .whole) (p .in-whole) in
+        let a = at-least (v .part) (p .in-part) in
+        let r = p .reached in
+        record {
+          far = omega arith;
+          filled = λ j h. bit-some _ (getD (v .part) j 0) (and-bit (word x (suc (off + j))) (word y (suc j)) (getD (v .part) j 0)
+              (ap (bit (word x (suc (off + j)))) (sym (p .found j (omega arith))) ∙ p .in-whole .symbol-bits (off + j) (omega arith))
+              (p .in-part .symbol-bits j (omega arith)));
+        }
 
-      pub in-fits : (v : Part) → PartAt x y n off v → Fitting x y off top (v .part)
-      in-fits v p =
-          let m = longest .most (v .whole) (p .in-whole) in
-          let k = p .reached in
-          let r = reach-end off (length (v .part)) in
-          record {
-            inside = p .in-part;
-            short = omega arith;
-            allowed = λ j h. ap (bit (word x (suc (off + j)))) (sym (p .found j h)) ∙ p .in-whole .symbol-bits (off + j) (omega arith);
-          }
+  -- ---- Y
 
-      module _ (e : bit n (suc off) ≡ true) (far : reachOf off least ≤ top) where
-        pub around : List ℕ → List ℕ
-        around v = map (laid-over off v (longest .string)) (upto top)
+  module _ (top : ℕ) (longest : Longest x top) where
+    pub in-fits : (v : Part) → PartAt x y n off v → Fitting x y off top (v .part)
+    in-fits v p =
+        let m = longest .most (v .whole) (p .in-whole) in
+        let k = p .reached in
+        record {
+          inside = p .in-part;
+          short = omega arith;
+          allowed = λ j h. ap (bit (word x (suc (off + j)))) (sym (p .found j h)) ∙ p .in-whole .symbol-bits (off + j) (omega arith);
+        }
 
-        around-in : (v : List ℕ) → Fitting x y off top v → InRow x (around v)
-        unfolding around
-        around-in v f = made x top (laid-over off v (longest .string))
-            (subst (λ (l : ℕ). bit (word x 0) l ≡ true) (longest .long) (longest .inside .length-bit))
-            (λ j h. laid-cases off v (longest .string) (λ i a. bit (word x (suc i)) a ≡ true) (λ i k. f .allowed i k) j
-            (longest .inside .symbol-bits j (subst (λ (l : ℕ). j < l) (sym (longest .long)) h)))
+    pub around : List ℕ → List ℕ
+    around v = map (laid-over off v (longest .string)) (upto top)
 
-        around-reached : (v : List ℕ) → Fitting x y off top v → reachOf off (length v) ≤ top
-        around-reached v f = go (ltb least (length v)) refl
-          where
-            go : (t : Bool) → ltb least (length v) ≡ t → reachOf off (length v) ≤ top
-            go true q =
-                let h = ltb-true least (length v) q in
-                let k = f .short in
-                let r = reach-some off (length v) (omega arith) in
-                omega arith
-            go false q =
-                let h = ltb-false least (length v) q in
-                let k = at-least v (f .inside) in
-                let d : least ≡ length v = omega arith in
-                subst (λ (l : ℕ). reachOf off l ≤ top) d far
+    around-in : (v : List ℕ) → Fitting x y off top v → InRow x (around v)
+    unfolding around
+    around-in v f = made x top (laid-over off v (longest .string))
+        (subst (λ (l : ℕ). bit (word x 0) l ≡ true) (longest .long) (longest .inside .length-bit))
+        (λ j h. laid-cases off v (longest .string) (λ i a. bit (word x (suc i)) a ≡ true) (λ i k. f .allowed i k) j
+        (longest .inside .symbol-bits j (subst (λ (l : ℕ). j < l) (sym (longest .long)) h)))
 
-        pub of-fits : (v : List ℕ) → Fitting x y off top v → PartAt x y n off (record { whole = around v; part = v; start = suc off })
-        unfolding around
-        of-fits v f =
-            let k = f .short in
-            record {
-              in-whole = around-in v f;
-              in-part = f .inside;
-              in-start = e;
-              starts = refl;
-              reached = subst (λ (l : ℕ). reachOf off (length v) ≤ l) (sym (tabulated-length (laid-over off v (longest .string)) top)) (around-reached v f);
-              found = λ j h. tabulated-word (laid-over off v (longest .string)) top (off + j) (omega arith) ∙ laid-inside off v (longest .string) j h;
-            }
+    pub of-fits : bit n (suc off) ≡ true → (v : List ℕ) → Fitting x y off top v → PartAt x y n off (record { whole = around v; part = v; start = suc off })
+    unfolding around
+    of-fits e v f =
+        let k = f .short in
+        record {
+          in-whole = around-in v f;
+          in-part = f .inside;
+          in-start = e;
+          starts = refl;
+          reached = subst (λ (l : ℕ). off + length v ≤ l) (sym (tabulated-length (laid-over off v (longest .string)) top)) k;
+          found = λ j h. tabulated-word (laid-over off v (longest .string)) top (off + j) (omega arith) ∙ laid-inside off v (longest .string) j h;
+        }

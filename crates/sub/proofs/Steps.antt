@@ -23,9 +23,8 @@ use Rattle.laws.proofs.Supports.{none-support}
 use Rattle.inplace.specs.InTable.{Ready, Shortened, Changed, Flag, both, Meets}
 use Rattle.inplace.proofs.Tables.{row-first, row-place, highest-most, highest-one, bit-some}
 use Rattle.inplace.proofs.Sides.{Side, side-of, side-ended, side-flag}
-use Rattle.sub.specs.Substrings.{reachOf, Lesser, Added, Room, Alive, Fitting, Entering, Passing, Entered, Somewhere, Started}
+use Rattle.sub.specs.Substrings.{Lesser, Added, Room, Alive, Fitting, Entering, Passing, Entered, Somewhere, Started}
 use Rattle.sub.specs.Substrings.{Reaching, Over, Covered, Fixed, Written, Left, Allowed, Wholes, common}
-use Rattle.sub.proofs.ReachLaws.{reach-end, reach-later}
 use Rattle.sub.proofs.Turns.{rest-in, rest-out, write-next}
 use Rattle.sub.proofs.RowsAt.{of-high-bits, in-high-bits, partRow, part-first, part-inside, part-past, part-supports}
 
@@ -33,12 +32,12 @@ use Rattle.sub.proofs.RowsAt.{of-high-bits, in-high-bits, partRow, part
 
 module _ (T : List ℕ) (bd : Words T) (x y off least most longest : ℕ) (small : off < 63) (room : Room T x y least most longest) (r : List ℕ) where
   -- X is too short
-  pub start-past : longest < reachOf off least → Entered (row T x) (row T y) off least longest r r 0
+  pub start-past : longest < off + least → Entered (row T x) (row T y) off least longest r r 0
   start-past h = inr (record { dead = λ a. let k = a .far in omega arith; start = refl; same = refl })
 
-  module _ (far : reachOf off least ≤ longest) (lim m : ℕ) (le : Lesser most (longest - off) lim) (met : Meets T (64 * x + off) (64 * y) lim m) where
+  module _ (far : off + least ≤ longest) (lim m : ℕ) (le : Lesser most (longest - off) lim) (met : Meets T (64 * x + off) (64 * y) lim m) where
     inside : off + lim ≤ longest
-    inside = let k = le .second in let f = far in let e = reach-end off least in omega arith
+    inside = let k = le .second in let f = far in omega arith
 
     common-word : (j : ℕ) → j < lim → both T (64 * x + off) (64 * y) j ≡ common (row T x) (row T y) off j
     common-word j h =
@@ -53,7 +52,6 @@ module _ (T : List ℕ) (bd : Words T) (x y off least most longest : ℕ) (small
     pub start-short : m < least → Entered (row T x) (row T y) off least longest r r 0
     start-short h =
         let f = far in
-        let e = reach-end off least in
         let k : least ≤ lim = le .most least (highest-most (word (row T y) 0) most least (room .high) (room .low .here)) (omega arith) in
         inr (record {
           dead = λ a. let z = sym (common-word m (omega arith)) ∙ met .stop (omega arith) in let p = a .filled m h in absurd (omega arith);
@@ -81,7 +79,7 @@ module _ (T : List ℕ) (bd : Words T) (x y off least most longest : ℕ) (small
       module _ (h : ℕ) (high : Highest ls h) (lr : length r ≡ 64) (s : List ℕ) (added : Added T (64 * x + off) (64 * y) ls h r s) where
         abbrev part : List ℕ
         part = partRow (row T x) (row T y) off longest most lim m (row-words T bd y) (room .high) le
-            (let f = far in let e = reach-end off least in omega arith) (met .small)
+            (let f = far in omega arith) (met .small)
             (λ j l. let k = met .small in subst (λ (w : ℕ). 0 < w) (common-word j (omega arith)) (met .filled j l)) (λ l. sym (common-word m l) ∙ met .stop l)
             ls h is-short high
 
@@ -220,8 +218,8 @@ module _ (T : List ℕ) (x y n least : ℕ) (h : Left T x y n least) where
       let q : t .0 ≡ b - 1 = omega arith in
       (omega arith, subst (λ (k : ℕ). Alive (row T x) (row T y) k least (h .tidy .top)) q (t .2))
 
-  pub reach-small : (b : ℕ) → bit n b ≡ true → reachOf (b - 1) least < 64
-  reach-small b e = let k = alive-at b e .1 .far in let s = h .tidy .longest .small in omega arith
+  pub end-small : (b : ℕ) → bit n b ≡ true → b - 1 + least < 64
+  end-small b e = let k = alive-at b e .1 .far in let s = h .tidy .longest .small in omega arith
 
 module _ (T : List ℕ) (bd : Words T) (x y n least : ℕ) (h : Left T x y n least) (lo hi : ℕ) (low : Lowest n lo) (high : Highest n hi) where
   abbrev top : ℕ
@@ -247,16 +245,10 @@ module _ (T : List ℕ) (bd : Words T) (x y n least : ℕ) (h : Left T x y n lea
   most-off off e = let k = highest-most n hi (suc off) high e in omega arith
 
   abbrev end : ℕ
-  end = reachOf (lo - 1) least
-
-  abbrev to : ℕ
-  to = lo - 1 + least
+  end = lo - 1 + least
 
   end-top : end ≤ top
   end-top = first-alive .far
-
-  to-top : to ≤ top
-  to-top = let k = end-top in let r = reach-end (lo - 1) least in omega arith
 
   pub wholes-covered : Covered T x y n (hi - 1) (lo - 1 + least)
   wholes-covered = record {
@@ -264,10 +256,10 @@ module _ (T : List ℕ) (bd : Words T) (x y n least : ℕ) (h : Left T x y n lea
     fits-y = h .fits-y;
     apart = h .apart;
     near = most-off;
-    small = let k = to-top in let s = h .tidy .longest .small in omega arith;
+    small = let k = end-top in let s = h .tidy .longest .small in omega arith;
   }
 
-  module _ (ls : ℕ) (els : ls ≡ word T (64 * x) / 2 ^ reachOf (lo - 1) least * 2 ^ reachOf (lo - 1) least % 2 ^ 64) (T₁ : List ℕ) (p : Bool)
+  module _ (ls : ℕ) (els : ls ≡ word T (64 * x) / 2 ^ (lo - 1 + least) * 2 ^ (lo - 1 + least) % 2 ^ 64) (T₁ : List ℕ) (p : Bool)
       (w : Written (Fixed (row T x) (row T y) n) T (64 * x) (hi - 1) (lo - 1 + least) (lo - 1 + least) T₁ p) where
     ls-is : ls ≡ word (row T x) 0 / 2 ^ end * 2 ^ end % 2 ^ 64
     ls-is = els ∙ ap (λ (v : ℕ). v / 2 ^ end * 2 ^ end % 2 ^ 64) (sym (row-first T x))
@@ -292,11 +284,11 @@ module _ (T : List ℕ) (bd : Words T) (x y n least : ℕ) (h : Left T x y n lea
     side : Side (row T x) (row T₁ x) (h .tidy .top) (row T₁ x) p
     side =
         let s = h .tidy .longest .small in
-        let k = to-top in
+        let k = end-top in
         let z = w .size in
         let f = h .fits-x in
         side-of T T₁ (row T₁ x) x top p (omega arith) (h .fits-x) (w .size) (w .kept (64 * x) (λ j q r t e. omega arith))
-        (λ i l. sym (row-place T₁ x i (omega arith))) (λ i l m. past i (omega arith)) (changed-wider _ _ to top p k past (w .flag))
+        (λ i l. sym (row-place T₁ x i (omega arith))) (λ i l m. past i (omega arith)) (changed-wider _ _ end top p k past (w .flag))
       where
         past : (i : ℕ) → lo - 1 + least ≤ i → word T₁ (suc (64 * x + i)) ≡ word T (suc (64 * x + i))
         past i l = w .kept (suc (64 * x + i)) (λ j q r t e. omega arith)
@@ -320,7 +312,7 @@ module _ (T : List ℕ) (bd : Words T) (x y n least : ℕ) (h : Left T x y n lea
       place-word j l = let s = h .tidy .longest .small in cut .kept j l ∙ row-place T₁ x j (omega arith)
 
       fixed : (j : ℕ) → hi - 1 ≤ j → j < lo - 1 + least → Fixed (row T x) (row T y) n j (word (row U x) (suc j))
-      fixed j l m = let k = to-top in subst (Fixed (row T x) (row T y) n j) (sym (place-word j (omega arith))) (w .done j l m)
+      fixed j l m = let k = end-top in subst (Fixed (row T x) (row T y) n j) (sym (place-word j (omega arith))) (w .done j l m)
 
       free : (j : ℕ) → ((j < hi - 1) ⊎ (lo - 1 + least ≤ j)) → word (row U x) (suc j) ≡ word (row T x) (suc j)
       free j o = go (ltb j top) refl
@@ -334,12 +326,12 @@ module _ (T : List ℕ) (bd : Words T) (x y n least : ℕ) (h : Left T x y n lea
 
       -- a place lies in the part by every start, or not
       by-place : (P : ℕ → Type 0) → ((j : ℕ) → hi - 1 ≤ j → j < lo - 1 + least → P j) → ((j : ℕ) → ((j < hi - 1) ⊎ (lo - 1 + least ≤ j)) → P j) → (j : ℕ) → P j
-      by-place P f g j = at (ltb j (hi - 1)) refl (ltb j to) refl
+      by-place P f g j = at (ltb j (hi - 1)) refl (ltb j end) refl
         where
-          at : (s : Bool) → ltb j (hi - 1) ≡ s → (t : Bool) → ltb j to ≡ t → P j
+          at : (s : Bool) → ltb j (hi - 1) ≡ s → (t : Bool) → ltb j end ≡ t → P j
           at true p t q = g j (inl (ltb-true j (hi - 1) p))
-          at false p true q = f j (ltb-false j (hi - 1) p) (ltb-true j to q)
-          at false p false q = g j (inr (ltb-false j to q))
+          at false p true q = f j (ltb-false j (hi - 1) p) (ltb-true j end q)
+          at false p false q = g j (inr (ltb-false j end q))
 
       sound : (i a : ℕ) → i < 64 → bit (word (row U x) i) a ≡ true → (off : ℕ) × (bit n (suc off) ≡ true) × Allowed (row T x) (row T y) off least i a
       sound zero a l e =
@@ -364,7 +356,7 @@ module _ (T : List ℕ) (bd : Words T) (x y n least : ℕ) (h : Left T x y n lea
 
       complete : (i a off : ℕ) → i < 64 → bit n (suc off) ≡ true → Allowed (row T x) (row T y) off least i a → bit (word (row U x) i) a ≡ true
       complete zero a off l f t =
-          let k = reach-later (lo - 1) off least (least-off off f) in
+          let k = least-off off f in
           let g = t .long refl in
           ap (λ (v : ℕ). bit v a) (cut .first) ∙ in-ls a (omega arith) (t .own)
       complete (suc j) a off l f t = by-place (λ j. Allowed (row T x) (row T y) off least (suc j) a → bit (word (row U x) (suc j)) a ≡ true)
@@ -393,7 +385,7 @@ module _ (T : List ℕ) (bd : Words T) (x y n least : ℕ) (h : Left T x y n lea
         only = record {
           size = sh .only .size ∙ w .size;
           before = λ k l. sh .only .before k l ∙ w .kept k (λ j q r t e. omega arith);
-          after = λ k l. sh .only .after k l ∙ w .kept k (λ j q r t e. let g = to-top in let s = h .tidy .longest .small in omega arith);
+          after = λ k l. sh .only .after k l ∙ w .kept k (λ j q r t e. let g = end-top in let s = h .tidy .longest .small in omega arith);
         };
         sound = sound;
         complete = complete;

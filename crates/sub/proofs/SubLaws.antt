@@ -4,12 +4,13 @@ use mathlib.Core.Bool.{true, _&&_, false≢true}
 use mathlib.Core.List.{List, [], _∷_, _++_}
 use Prim.Native.Nat.{ℕ, zero, suc, _+_, _-_, _^_, _≤_, _<_}
 use native.Mathlib.Omega.{arith}
+use lib.Dec.{leb}
 use lib.ListN.{length, getD, take, drop, length-drop}
 use lib.Seq.{length-take-le, getD-take, getD-drop, ext-getD}
 use borrow.Author.Tests.{leb-true, le-leb}
 use Rattle.model.specs.Lists.{same}
 use Rattle.model.specs.Words.{bit, bits, word, Words}
-use Rattle.model.specs.Constraints.{sub, variables, meets, reaches, isPart}
+use Rattle.model.specs.Constraints.{sub, variables, meets, isPart}
 use Rattle.model.specs.Solutions.{textBit}
 use Rattle.model.specs.Support.{narrowed}
 use Rattle.words.specs.Ends.{Lowest}
@@ -22,18 +23,20 @@ use Rattle.laws.proofs.RowLaws.{length-used}
 use Rattle.laws.proofs.Supports.{moved-support, none-support}
 use Rattle.inplace.specs.InTable.{Tidy, zeros}
 use Rattle.inplace.proofs.Tables.{bit-some}
-use Rattle.sub.specs.Substrings.{reachOf, Alive, Somewhere, Started, Allowed}
+use Rattle.sub.specs.Substrings.{Alive, Somewhere, Started, Allowed}
 use Rattle.sub.proofs.PartRows.{Part, Supported, Met, part-narrowed}
-use Rattle.sub.proofs.ReachLaws.{reach-end, reach-test}
 use Rattle.sub.proofs.TidyLaws.{Longest, tidy-longest}
 use Rattle.sub.proofs.RowsAt.{wholeRow, whole-of, whole-in, whole-supports}
 use Rattle.sub.proofs.StartLaws.{PartAt, wholes-supported, choice-alive, around, of-fits, in-fits}
 
 -- ---- a part by its symbols
 
-part-test : (x y : List ℕ) (off : ℕ) → isPart x y (suc off) ≡ (reaches x y (suc off) && same y (take (length y) (drop off x)))
+part-test : (x y : List ℕ) (off : ℕ) → isPart x y (suc off) ≡ (leb (off + length y) (length x) && same y (take (length y) (drop off x)))
 unfolding isPart
-part-test x y off = let e : suc off - 1 ≡ off = omega arith in rw (le-leb 1 (suc off) (omega arith), e)
+part-test x y off =
+    let e : suc off - 1 ≡ off = omega arith in
+    let d : suc off + length y - 1 ≡ off + length y = omega arith in
+    rw (le-leb 1 (suc off) (omega arith), e, d)
 
 part-same : (x y : List ℕ) (off : ℕ) → off + length y ≤ length x → ((j : ℕ) → j < length y → getD x (off + j) 0 ≡ getD y j 0) → y ≡ take (length y) (drop off x)
 part-same x y off h e =
@@ -50,10 +53,8 @@ module _ (x y : List ℕ) (n : ℕ) (lx : length x ≡ 64) (ly : length y ≡ 64
       let off = k .0 in
       let p = k .2 in
       let r = p .reached in
-      let g = reach-end off (length (v .part)) in
       let q : v .part ≡ take (length (v .part)) (drop off (v .whole)) = part-same (v .whole) (v .part) off (omega arith) (p .found) in
-      let reached : reaches (v .whole) (v .part) (suc off) ≡ true = reach-test (v .whole) (v .part) off ∙ le-leb (reachOf off (length (v .part)))
-      (length (v .whole)) r in
+      let reached = le-leb (off + length (v .part)) (length (v .whole)) r in
       let found : same (v .part) (take (length (v .part)) (drop off (v .whole))) ≡ true = ap (same (v .part)) (sym q) ∙ same-refl (v .part) in
       record {
         in-whole = p .in-whole;
@@ -70,7 +71,7 @@ module _ (x y : List ℕ) (n : ℕ) (lx : length x ≡ 64) (ly : length y ≡ 64
       go zero e = absurd (false≢true (ap (isPart (v .whole) (v .part)) (sym e) ∙ m .meeting))
       go (suc off) e =
           let h = bn (v .start) (m .in-start) in
-          let t = and-true (reaches (v .whole) (v .part) (suc off)) (same (v .part) (take (length (v .part)) (drop off (v .whole))))
+          let t = and-true (leb (off + length (v .part)) (length (v .whole))) (same (v .part) (take (length (v .part)) (drop off (v .whole))))
           (sym (part-test (v .whole) (v .part) off) ∙ ap (isPart (v .whole) (v .part)) (sym e) ∙ m .meeting) in (
             off,
             omega arith,
@@ -79,7 +80,7 @@ module _ (x y : List ℕ) (n : ℕ) (lx : length x ≡ 64) (ly : length y ≡ 64
               in-part = m .in-part;
               in-start = m .in-start;
               starts = e;
-              reached = leb-true (reachOf off (length (v .part))) (length (v .whole)) (sym (reach-test (v .whole) (v .part) off) ∙ t .0);
+              reached = leb-true (off + length (v .part)) (length (v .whole)) (t .0);
               found = same-part (v .whole) (v .part) off (same-true (v .part) (take (length (v .part)) (drop off (v .whole))) (t .1));
             },
           )
@@ -149,21 +150,21 @@ module _ (x y : List ℕ) (n : ℕ) (lx : length x ≡ 64) (ly : length y ≡ 64
             let f : bit found (suc off) ≡ true = ap (bit found) (sym (t .1 .1)) ∙ e in
             let c = start-choice off f in
             bit-some (word r 0) (length (c .0 .part))
-            (s .parts .complete 0 (length (c .0 .part)) (omega arith) (c .0 .part) (off, f, in-fits x y n off least low (tidy .top) longest (c .0) (c .1))
+            (s .parts .complete 0 (length (c .0 .part)) (omega arith) (c .0 .part) (off, f, in-fits x y n off (tidy .top) longest (c .0) (c .1))
             (length-used (c .0 .part)))
 
     parts-right : Supports (OfKinds (PartAt x y n) 63) (λ v. textBit (v .part)) 64 r
     parts-right = moved-support (Somewhere x y (tidy .top) found) (OfKinds (PartAt x y n) 63) textBit (λ v. textBit (v .part)) 64 r
         (λ v o. (
           record {
-            whole = around x y n (o .0) least low (tidy .top) longest (allowed (o .0) (o .1)) (alive (o .0) (o .1) .far) v;
+            whole = around x y n (o .0) (tidy .top) longest v;
             part = v;
             start = suc (o .0);
           },
-          (o .0, small (o .0) (o .1), of-fits x y n (o .0) least low (tidy .top) longest (allowed (o .0) (o .1)) (alive (o .0) (o .1) .far) v (o .2)),
+          (o .0, small (o .0) (o .1), of-fits x y n (o .0) (tidy .top) longest (allowed (o .0) (o .1)) v (o .2)),
           λ i h. refl,
         ))
-        (λ v o. (v .part, (o .0, choice-found (o .0) v (o .2), in-fits x y n (o .0) least low (tidy .top) longest v (o .2)), λ i h. refl))
+        (λ v o. (v .part, (o .0, choice-found (o .0) v (o .2), in-fits x y n (o .0) (tidy .top) longest v (o .2)), λ i h. refl))
         (s .parts)
 
     starts-right : Supports (OfKinds (PartAt x y n) 63) (λ v i. 2 ^ (v .start)) 1 (found ∷ [])

@@ -3,7 +3,7 @@ use mathlib.Core.Path.{_≡_}
 use mathlib.Core.Logic.{_⊎_, _≢_}
 use mathlib.Core.Bool.{Bool, true, false}
 use mathlib.Core.List.{List}
-use Prim.Native.Nat.{ℕ, zero, suc, _+_, _-_, _*_, _^_, _≤_, _<_}
+use Prim.Native.Nat.{ℕ, suc, _+_, _-_, _*_, _^_, _≤_, _<_}
 use lib.Bits.{bitAnd, bitOr}
 use lib.ListN.{length, getD}
 use Rattle.model.specs.Words.{bit, word}
@@ -12,11 +12,6 @@ use Rattle.model.specs.Solutions.{textBit}
 use Rattle.words.specs.Ends.{Highest, Lowest}
 use Rattle.laws.specs.Supported.{InRow, Supports}
 use Rattle.inplace.specs.InTable.{Tidy, Only, Changed, Flag, both}
-
--- "N + m - 1 ≤ |X|. An empty Y is met at N from 1 to |X|": the least length of an X in which a part of m symbols starts after off symbols
-unfoldable pub reachOf : ℕ → ℕ → ℕ
-reachOf off zero = off + 1
-reachOf off (suc m) = off + suc m
 
 -- r is the lesser of a and b
 pub record Lesser (a b r : ℕ) : Type 0 where
@@ -47,7 +42,7 @@ pub record Room (T : List ℕ) (x y least most longest : ℕ) : Type 0 where
 
 -- a part of y's least length fits after off symbols into an x of the greatest length
 pub record Alive (x y : List ℕ) (off least longest : ℕ) : Type 0 where
-  pub far : reachOf off least ≤ longest
+  pub far : off + least ≤ longest
   pub filled : (j : ℕ) → j < least → 0 < common x y off j
 
 -- w is a string of y that x allows after off symbols, and that ends by x's place top
@@ -129,13 +124,12 @@ pub record Left (T : List ℕ) (x y n least : ℕ) : Type 0 where
   pub apart : y ≢ x
   pub tidy : Tidy (row T x)
   pub some : 0 < n
-  pub small : least < 64
   pub alive : (b : ℕ) → bit n b ≡ true → (off : ℕ) × (b ≡ suc off) × Alive (row T x) (row T y) off least (tidy .top)
 
 -- the lengths of x that the start leaves, and the symbols at a place: in the part, those that y allows too
 pub record Allowed (x y : List ℕ) (off least i a : ℕ) : Type 0 where
   pub own : bit (word x i) a ≡ true
-  pub long : i ≡ 0 → reachOf off least ≤ a
+  pub long : i ≡ 0 → off + least ≤ a
   pub part : (j : ℕ) → j < least → i ≡ suc (off + j) → bit (word y (suc j)) a ≡ true
 
 -- the row of x has just what one of the starts n allows

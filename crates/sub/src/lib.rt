@@ -10,18 +10,7 @@ ghost use Rattle.model.specs.Domains.{row};
 ghost use Rattle.model.specs.Constraints.{sub};
 ghost use Rattle.inplace.specs.InTable.{Tidy};
 ghost use Rattle.inplace.specs.InPlace.{InPlace};
-ghost use Rattle.sub.specs.Substrings.{reachOf, Lesser, Added, Room, Entered, Started, Reaching, Over, Covered, Fixed, Written, Left, Wholes};
-
-// The least length of an X in which a part of m symbols starts after off symbols. Nothing else knows how far an empty part may go.
-fn reach(off: usize, m: usize) -> usize
-    requires { ⌜ (off < 64) × (m < 64) ⌝ }
-    ensures { λ r. ⌜ r ≡ reachOf off m ⌝ }
-{
-    if m == 0 {
-        return off + 1;
-    }
-    off + m
-}
+ghost use Rattle.sub.specs.Substrings.{Lesser, Added, Room, Entered, Started, Reaching, Over, Covered, Fixed, Written, Left, Wholes};
 
 // The lesser of two numbers.
 fn lesser(a: usize, b: usize) -> usize
@@ -60,7 +49,7 @@ fn at_start(
     requires { ⌜ (length (now r) ≡ 64) × (off < 63) × Room (now t) x y least most longest ⌝ }
     ensures { λ u. ⌜ Entered (row (now (t .entry)) x) (row (now (t .entry)) y) off least longest (now (r .entry)) (now (r .exit)) u ⌝ }
 {
-    if longest < reach(off, least) {
+    if longest < off + least {
         return 0;
     }
     let m = inplace::meets(t, 64 * x + off, 64 * y, lesser(most, longest - off));
@@ -132,9 +121,9 @@ fn wholes(t: &mut [u64], x: usize, y: usize, n: u64, least: usize) -> bool
     ensures { λ r. ⌜ Wholes (now (t .entry)) x y n least (now (t .exit)) r ⌝ }
 {
     let first = words::lowest(n) - 1;
-    let end = reach(first, least);
+    let end = first + least;
     let ls = (t[64 * x] >> end) << end;
-    let p = fix(t, x, y, n, words::highest(n) - 1, first + least);
+    let p = fix(t, x, y, n, words::highest(n) - 1, end);
     let q = inplace::shorten(t, x, ls);
     inplace::either(p, q)
 }

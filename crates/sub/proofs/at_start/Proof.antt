@@ -1,9 +1,7 @@
 use native.Mathlib.Numerals.{add-one}
 use native.Mathlib.Omega.{arith}
-use Prim.Native.Nat.{_≤_, _<_}
+use Prim.Native.Nat.{_+_, _≤_}
 use Rattle.laws.proofs.TableLaws.{words-of}
-use Rattle.sub.specs.Substrings.{reachOf}
-use Rattle.sub.proofs.ReachLaws.{reach-end}
 use Rattle.sub.proofs.Steps.{start-past, start-short, start-some, start-end, start-left}
 use borrow.Author.Needs.{needs}
 use Rattle.sub.proofs.at_start.Statement.{statement}
@@ -13,20 +11,18 @@ use Rattle.sub.proofs.at_start.Lts as lts
 use Rattle.sub.proofs.add.Reads as add-reads
 use Rattle.sub.proofs.lesser.Reads as lesser-reads
 use Rattle.inplace.proofs.meets.Reads as meets-reads
-use Rattle.sub.proofs.reach.Reads as reach-reads
 use Rattle.words.proofs.highest.Reads as highest-reads
 use Rattle.words.proofs.low_mask.Reads as low-mask-reads
 use Rattle.words.proofs.singleton.Reads as singleton-reads
 
-reach-requires : tie.Need-reach-requires
-reach-requires c κs = search needs
+add-if1 : tie.Need-add-if1
+add-if1 c = search needs
 
 returns : tie.Need-returns
 returns c =
-    let k = c .before .before in
+    let k = c .before in
     let s = k .before in
-    let past : s .args .longest < reachOf (s .args .off) (s .args .least) = rw (c .before .reach .ensures) at (c .if1 .taken) in
-    start-past (s .args .t .now) (words-of (s .args .t .now) (λ i. k .shared-slice-known .given i .fits)) _ _ _ _ _ _ (s .pre .1) (s .pre .2) _ past
+    start-past (s .args .t .now) (words-of (s .args .t .now) (λ i. k .shared-slice-known .given i .fits)) _ _ _ _ _ _ (s .pre .1) (s .pre .2) _ (c .if1 .taken)
 
 mul-meets : tie.Need-mul-meets
 mul-meets c = search needs
@@ -38,11 +34,7 @@ mul-meets-2 : tie.Need-mul-meets-2
 mul-meets-2 c = search needs
 
 sub-lesser : tie.Need-sub-lesser
-sub-lesser c =
-    let s = c .before .before .before in
-    let r = c .before .reach .ensures in
-    let e = reach-end (s .args .off) (s .args .least) in
-    omega arith
+sub-lesser c = search needs
 
 lesser-requires : tie.Need-lesser-requires
 lesser-requires c κs = search needs
@@ -53,10 +45,9 @@ meets-requires c κs = search needs
 returns-2 : tie.Need-returns-2
 returns-2 c =
     let e = c .before .before .before in
-    let k = e .before .before in
+    let k = e .before in
     let s = k .before in
-    let near : e .before .reach .result ≤ s .args .longest = search needs in
-    let far : reachOf (s .args .off) (s .args .least) ≤ s .args .longest = rw (e .before .reach .ensures) at near in
+    let far : s .args .off + s .args .least ≤ s .args .longest = search needs in
     let words = words-of (s .args .t .now) (λ i. k .shared-slice-known .given i .fits) in
     start-short (s .args .t .now) words _ _ _ _ _ _ (s .pre .1) (s .pre .2) (s .args .r .now) far _ _ (c .before .before .lesser .ensures)
     (c .before .meets .ensures) (c .if2 .taken)
@@ -85,10 +76,9 @@ mul-add-2 c = search needs
 highest-requires : tie.Need-highest-requires
 highest-requires c κs =
     let e = c .before .before .before .before .before in
-    let k = e .before .before in
+    let k = e .before in
     let s = k .before in
-    let near : e .before .reach .result ≤ s .args .longest = search needs in
-    let far : reachOf (s .args .off) (s .args .least) ≤ s .args .longest = rw (e .before .reach .ensures) at near in
+    let far : s .args .off + s .args .least ≤ s .args .longest = search needs in
     let words = words-of (s .args .t .now) (λ i. k .shared-slice-known .given i .fits) in
     let m = c .before .before .before in
     start-some (s .args .t .now) words _ _ _ _ _ _ (s .pre .1) (s .pre .2) (s .args .r .now) far _ _ (m .before .lesser .ensures) (m .meets .ensures)
@@ -97,10 +87,9 @@ highest-requires c κs =
 add-requires : tie.Need-add-requires
 add-requires c κs =
     let e = c .before .before .before .before .before .before .before in
-    let k = e .before .before in
+    let k = e .before in
     let s = k .before in
-    let near : e .before .reach .result ≤ s .args .longest = search needs in
-    let far : reachOf (s .args .off) (s .args .least) ≤ s .args .longest = rw (e .before .reach .ensures) at near in
+    let far : s .args .off + s .args .least ≤ s .args .longest = search needs in
     let words = words-of (s .args .t .now) (λ i. k .shared-slice-known .given i .fits) in
     let h = c .before in
     let m = h .before .before .before .before in
@@ -112,7 +101,6 @@ add-requires c κs =
     let second = m .before .lesser .ensures .second in
     let top = s .pre .2 .top .small in
     let most = s .pre .2 .high .small in
-    let end-in = reach-end (s .args .off) (s .args .least) in
     let fx = s .pre .2 .fits-x in
     let fy = s .pre .2 .fits-y in
     (s .pre .0, small, omega arith, omega arith)
@@ -126,10 +114,9 @@ singleton-requires c κs = search needs
 returns-3 : tie.Need-returns-3
 returns-3 c =
     let e = c .before .before .before .before .before .before .before .before .before in
-    let k = e .before .before in
+    let k = e .before in
     let s = k .before in
-    let near : e .before .reach .result ≤ s .args .longest = search needs in
-    let far : reachOf (s .args .off) (s .args .least) ≤ s .args .longest = rw (e .before .reach .ensures) at near in
+    let far : s .args .off + s .args .least ≤ s .args .longest = search needs in
     let words = words-of (s .args .t .now) (λ i. k .shared-slice-known .given i .fits) in
     let h = c .before .before .before in
     let m = h .before .before .before .before in
@@ -141,7 +128,7 @@ pub at-start-spec : {M : Type 1} → statement M
 at-start-spec =
     tie.close
     (tie.spec
-    reach-requires
+    add-if1
     returns
     mul-meets
     add-meets
