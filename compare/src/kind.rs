@@ -99,19 +99,8 @@ impl Kind {
             (1000, _) => Kind::Full,
             (2000 | 4000, _) => Kind::Tree,
             (3000, 0) => Kind::Endless,
-            _ => Kind::pick(random),
+            _ => random.by_share(&Kind::ALL, Kind::share),
         }
-    }
-
-    fn pick(random: &mut Random) -> Kind {
-        let mut left = random.below(10_000);
-        for kind in Kind::ALL {
-            if left < kind.share() {
-                return kind;
-            }
-            left -= kind.share();
-        }
-        Kind::Small
     }
 }
 

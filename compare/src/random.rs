@@ -48,6 +48,18 @@ impl Random {
         &from[self.below(from.len())]
     }
 
+    /// One of these, as often as its share says of the sum of all shares.
+    pub fn by_share<T: Copy>(&mut self, from: &[T], share: fn(T) -> usize) -> T {
+        let mut left = self.below(from.iter().map(|&one| share(one)).sum());
+        for &one in from {
+            if left < share(one) {
+                return one;
+            }
+            left -= share(one);
+        }
+        unreachable!("what is below the sum lies in one of the shares")
+    }
+
     /// A subset of 0 to n - 1, each in it with a chance of `share` in 8.
     pub fn subset(&mut self, n: usize, share: usize) -> u64 {
         (0..n).filter(|_| self.below(8) < share).fold(0, |word, bit| word | 1 << bit)

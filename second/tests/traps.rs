@@ -96,48 +96,57 @@ fn neq_strikes_only_against_one_string() {
     assert_eq!(after_step(&problem), (5, table(&[NOTHING, NOTHING], &[])));
 }
 
+/// Sub with an empty Y, from these domains of X and N.
+fn empty_part(x: Row, n: u64) -> Draft {
+    draft(2, &[x, just(&[])], &[n], &[[5, 0, 1, 0]])
+}
+
+/// The step of that strikes so many bits, and leaves X and N these.
+fn empty_part_gives(x: Row, n: u64, struck: u32, kept_x: Row, kept_n: u64) {
+    let wanted = table(&[kept_x, just(&[])], &[kept_n]);
+    assert_eq!(after_step(&empty_part(x, n)), (struck, wanted));
+}
+
 /// "an empty Y is met at N from 1 to |X| + 1, within the values a number can
 /// have", and "For |X| = 63 the place 64 still can't be expressed."
 #[test]
 fn sub_of_an_empty_part() {
-    let sub = |x: Row, n: u64| draft(2, &[x, just(&[])], &[n], &[[5, 0, 1, 0]]);
-    let gives = |x: Row, n: u64, struck: u32, kept_x: Row, kept_n: u64| {
-        let wanted = table(&[kept_x, just(&[])], &[kept_n]);
-        assert_eq!(after_step(&sub(x, n)), (struck, wanted));
-    };
-
     // X empty too.
     let empty = just(&[]);
-    gives(empty, set(&[1]), 0, empty, set(&[1]));
-    gives(empty, set(&[0, 1]), 1, empty, set(&[1]));
-    gives(empty, u64::MAX, 63, empty, set(&[1]));
+    empty_part_gives(empty, set(&[1]), 0, empty, set(&[1]));
+    empty_part_gives(empty, set(&[0, 1]), 1, empty, set(&[1]));
+    empty_part_gives(empty, u64::MAX, 63, empty, set(&[1]));
     for n in [set(&[0]), set(&[2]), !set(&[1])] {
-        assert_eq!(after_step(&sub(empty, n)).1, table(&[NOTHING, NOTHING], &[0]));
+        assert_eq!(after_step(&empty_part(empty, n)).1, table(&[NOTHING, NOTHING], &[0]));
     }
 
     // One past the last symbol, and not after it.
     let two = just(&[0, 1]);
-    gives(two, u64::MAX, 61, two, set(&[1, 2, 3]));
-    gives(two, set(&[3]), 0, two, set(&[3]));
-    assert_eq!(after_step(&sub(two, set(&[0, 4]))).1, table(&[NOTHING, NOTHING], &[0]));
+    empty_part_gives(two, u64::MAX, 61, two, set(&[1, 2, 3]));
+    empty_part_gives(two, set(&[3]), 0, two, set(&[3]));
+    assert_eq!(after_step(&empty_part(two, set(&[0, 4]))).1, table(&[NOTHING, NOTHING], &[0]));
 
     // The longest X with a place past it, and the X that has none.
     let [nearly, longest] = [62, 63].map(|length| just(&vec![1; length]));
-    gives(nearly, set(&[63]), 0, nearly, set(&[63]));
-    gives(nearly, u64::MAX, 1, nearly, !set(&[0]));
-    gives(longest, set(&[63]), 0, longest, set(&[63]));
-    gives(longest, u64::MAX, 1, longest, !set(&[0]));
-    assert_eq!(after_step(&sub(longest, set(&[0]))).1, table(&[NOTHING, NOTHING], &[0]));
+    empty_part_gives(nearly, set(&[63]), 0, nearly, set(&[63]));
+    empty_part_gives(nearly, u64::MAX, 1, nearly, !set(&[0]));
+    empty_part_gives(longest, set(&[63]), 0, longest, set(&[63]));
+    empty_part_gives(longest, u64::MAX, 1, longest, !set(&[0]));
+    assert_eq!(after_step(&empty_part(longest, set(&[0]))).1, table(&[NOTHING, NOTHING], &[0]));
+}
 
+#[test]
+fn sub_keeps_what_an_empty_part_needs() {
     // X is as long as the least place asks, less one.
     let open = row(&[0, 2], &[&[0, 1], &[1]]);
-    gives(open, set(&[2]), 1, row(&[2], &[&[0, 1], &[1]]), set(&[2]));
-    gives(open, set(&[1, 3]), 0, open, set(&[1, 3]));
+    empty_part_gives(open, set(&[2]), 1, row(&[2], &[&[0, 1], &[1]]), set(&[2]));
+    empty_part_gives(open, set(&[1, 3]), 0, open, set(&[1, 3]));
     let short = row(&[0, 1], &[&[0, 1]]);
-    gives(short, set(&[1]), 0, short, set(&[1]));
-    gives(short, set(&[2]), 1, row(&[1], &[&[0, 1]]), set(&[2]));
+    empty_part_gives(short, set(&[1]), 0, short, set(&[1]));
+    empty_part_gives(short, set(&[2]), 1, row(&[1], &[&[0, 1]]), set(&[2]));
 
     // Past the end only the empty Y is met, before it the other one too.
+    let two = just(&[0, 1]);
     let y = row(&[0, 1], &[&[1]]);
     let problem = draft(2, &[two, y], &[set(&[3])], &[[5, 0, 1, 0]]);
     assert_eq!(after_step(&problem), (2, table(&[two, just(&[])], &[set(&[3])])));

@@ -79,18 +79,7 @@ impl Kind {
         if index <= u8::MAX.into() {
             return Kind::Byte;
         }
-        Kind::pick(random)
-    }
-
-    fn pick(random: &mut Random) -> Kind {
-        let mut left = random.below(100);
-        for kind in Kind::ALL {
-            if left < kind.share() {
-                return kind;
-            }
-            left -= kind.share();
-        }
-        Kind::Small
+        random.by_share(&Kind::ALL, Kind::share)
     }
 }
 

@@ -1,6 +1,6 @@
 -- Sub by support: all choices are those of the starts 1 to 63, and the rows and the word that the functions make are what they use. Assumes nothing.
 use mathlib.Core.Path.{_≡_, refl, sym, ap, subst, _∙_}
-use mathlib.Core.Bool.{true, _&&_, false≢true}
+use mathlib.Core.Bool.{true, false≢true}
 use mathlib.Core.List.{List, [], _∷_, _++_}
 use Prim.Native.Nat.{ℕ, zero, suc, _+_, _-_, _^_, _≤_, _<_}
 use native.Mathlib.Omega.{arith}
@@ -20,6 +20,7 @@ use Rattle.laws.specs.Supported.{Supports, OfKinds}
 use Rattle.laws.proofs.ListLaws.{and-true, true-and, same-true, same-refl}
 use Rattle.laws.proofs.WordLaws.{zero-bit, pow-self, pow-only}
 use Rattle.laws.proofs.RowLaws.{length-used}
+use Rattle.laws.proofs.PartLaws.{part-test}
 use Rattle.laws.proofs.Supports.{moved-support, none-support}
 use Rattle.inplace.specs.InTable.{Tidy, zeros}
 use Rattle.inplace.proofs.Tables.{bit-some}
@@ -30,13 +31,6 @@ use Rattle.sub.proofs.RowsAt.{wholeRow, whole-of, whole-in, whole-suppo
 use Rattle.sub.proofs.StartLaws.{PartAt, wholes-supported, choice-alive, around, of-fits, in-fits}
 
 -- ---- a part by its symbols
-
-part-test : (x y : List ℕ) (off : ℕ) → isPart x y (suc off) ≡ (leb (off + length y) (length x) && same y (take (length y) (drop off x)))
-unfolding isPart
-part-test x y off =
-    let e : suc off - 1 ≡ off = omega arith in
-    let d : suc off + length y - 1 ≡ off + length y = omega arith in
-    rw (le-leb 1 (suc off) (omega arith), e, d)
 
 part-same : (x y : List ℕ) (off : ℕ) → off + length y ≤ length x → ((j : ℕ) → j < length y → getD x (off + j) 0 ≡ getD y j 0) → y ≡ take (length y) (drop off x)
 part-same x y off h e =
