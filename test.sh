@@ -10,6 +10,7 @@ export PATH
 python3 tests/documents.py || exit 1
 python3 tests/edges.py || exit 1
 python3 tests/nodes.py || exit 1
+python3 tests/settlings.py || exit 1
 python3 tests/text.py || exit 1
 
 # One job more than there are processors, since a job also waits; at most 4, for memory.

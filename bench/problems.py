@@ -1,4 +1,4 @@
-# Problem files in the format of document 01, from descriptions that can be read: bench/search.py searches them. Deterministic.
+# Problem files in the format of document 01, from descriptions that can be read: bench/search.py searches them, bench/settling.py settles them. Deterministic.
 #     python3 bench/problems.py FOLDER      writes each problem to FOLDER/NAME.problem
 import random
 import sys
@@ -110,6 +110,16 @@ class Problem:
         words = [word for row in self.rows for word in row] + self.numbers
         counts = dict(k=len(self.alphabet), s=len(self.rows), t=len(self.numbers), d=len(self.machines))
         return file(words=dict(enumerate(words)), records=self.records, machines=b"".join(self.machines), **counts)
+
+
+def p14():
+    """P14 of document 01."""
+    p = Problem("01")
+    x, y, z, n = p.string([1, 2]), p.string([0, 1], "1"), p.string([2]), p.number(range(4))
+    p.rows[z][1] = p.word("0")
+    p.cat(x, y, z)
+    p.len(x, n)
+    return p
 
 
 def templates(signers):
@@ -282,6 +292,60 @@ def rules():
     return p
 
 
+# A dozen templates, each as the string that it continues and the part that comes last: strings 0 to 3 are COURSE, -SIGNER, -RENDITION and -COUNTER, and 4 + i
+# is the name that template i makes. So template 11 is COURSE-COUNTER-SIGNER-RENDITION, continued from 10, which is continued from 2.
+DOZEN = [(0, 1), (0, 2), (0, 3), (4, 2), (4, 3), (5, 3), (7, 3), (5, 1), (11, 3), (6, 2), (6, 1), (14, 2)]
+
+
+def parts(p):
+    """Adds four parts, each with its dash in front, its rule and its length as a number; a counter has four digits. Answers the constraints on them."""
+    rules = [
+        (range(3, 13), ((LETTERS, 1, 1), (LETTERS + DIGITS, 2, None))),
+        (range(3, 11), (("-", 1, 1), (LETTERS, 2, None))),
+        (range(3, 7), (("-", 1, 1), (LETTERS, 1, None), (DIGITS, 1, 1))),
+        (range(2, 9), (("-", 1, 1), (DIGITS, 1, None))),
+    ]
+    held = []
+    for lengths, blocks in rules:
+        x = p.string(lengths)
+        n = p.number([5] if x == 3 else range(LIMIT))
+        held += [("regular", x, p.rule(*blocks)), ("len", x, n)]
+    return held
+
+
+def dozen(most):
+    """The dozen templates over shared parts, every name held to the store's path rule and that of template 11 to so many letters. The first six tell the place
+    of their last part, the others their length. Answers the problem and its constraints: a list for the parts, and one for each template."""
+    p = Problem(LETTERS + DIGITS + "-")
+    held = [parts(p)]
+    path = p.rule((LETTERS + DIGITS, 3, None), ("-", 1, 1), (LETTERS + DIGITS + "-", 1, None))
+    for i, (front, part) in enumerate(DOZEN):
+        name = p.string(range(LIMIT))
+        tells = p.number(range(most + 1 if i == 11 else LIMIT))
+        held.append([("cat", front, part, name), ("regular", name, path), ("sub", name, part, tells) if i < 6 else ("len", name, tells)])
+    return p, held
+
+
+def held_to(p, lists):
+    """The problem with these lists of constraints, in this order."""
+    for kind, *arguments in sum(lists, []):
+        getattr(p, kind)(*arguments)
+    return p
+
+
+def parts_first():
+    """Each template behind those that it continues: what the rules of the parts and the counter's width strike goes with the order."""
+    p, held = dozen(LIMIT - 1)
+    return held_to(p, held)
+
+
+def newest_first():
+    """The last template at the top and the parts at the bottom, as where an editor adds what is new in front. Template 11 may make 24 letters, and what that
+    strikes goes from name to name, with the order and against it."""
+    p, held = dozen(24)
+    return held_to(p, held[::-1])
+
+
 # (name, what it is, the problem)
 PROBLEMS = [
     ("clash", "two templates that clash", clash()),
@@ -294,8 +358,14 @@ PROBLEMS = [
     ("woven", "16 short strings, 54 random constraints", woven(6)),  # the first seed from 0 on whose search spends the program's budget
 ]
 
+# Larger template sets, which are settled and not searched.
+SETS = [
+    ("parts-first", "a dozen templates, parts first", parts_first()),
+    ("newest-first", "a dozen templates, the newest first", newest_first()),
+]
+
 if __name__ == "__main__":
     folder = Path(sys.argv[1])
     folder.mkdir(exist_ok=True)
-    for name, _, problem in PROBLEMS:
+    for name, _, problem in PROBLEMS + SETS:
         (folder / f"{name}.problem").write_bytes(problem.file())

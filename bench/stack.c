@@ -1,7 +1,7 @@
 /* How deep the stack goes below a call: stack ENTRY NUMBER < FILE
  *
- * ENTRY is search, settle, step (every step, one after the other), perform (a list with one Settle) or compile, for which FILE is the text of a pattern. NUMBER is
- * the budget of search, and the number of symbols of compile. The call is made on a stack that was painted before; the lowest byte that lost its paint says how
+ * ENTRY is search, settle, by_index (Settle by index), step (every step, one after the other), perform (a list with one Settle) or compile, for which FILE is the
+ * text of a pattern. NUMBER is the budget of search, and the number of symbols of compile. The call is made on a stack that was painted before; the lowest byte that lost its paint says how
  * deep it went. Prints that as a count of bytes, arguments on the stack included.
  */
 #include <cobleskeg.h>
@@ -15,6 +15,7 @@ enum { STACK = 1 << 20, PAINT = 0xA5 };
 static _Alignas(4096) unsigned char stack[STACK];
 static uint8_t file[COBLESKEG_LARGEST_FILE + 1];
 static uint64_t room[3 * COBLESKEG_LARGEST_TABLE], table[COBLESKEG_LARGEST_TABLE];
+static uint64_t steps[COBLESKEG_LARGEST_INDEX];
 static uint8_t buffer[COBLESKEG_LARGEST_AUTOMATON];
 static size_t size, symbols, strings, numbers, automata, constraints, words, written;
 static uint32_t number, count;
@@ -29,6 +30,8 @@ static void *call(void *entry)
         cobleskeg_search(file, size, number, room, 3 * words, table, words, &answer, &count);
     if (strcmp(entry, "settle") == 0)
         cobleskeg_settle(file, size, table, words, &count, &answer);
+    if (strcmp(entry, "by_index") == 0)
+        cobleskeg_settle_by_index(file, size, steps, 2 * (strings + numbers), table, words, &count, &answer);
     if (strcmp(entry, "step") == 0)
         for (size_t j = 0; j < constraints + strings; j++)
             cobleskeg_step(file, size, j, table, words, &count);
@@ -39,13 +42,13 @@ static void *call(void *entry)
     return NULL;
 }
 
-/* Takes the file's table, where there is a file. */
+/* Takes the file's table and its index, where there is a file. */
 static int taken(void)
 {
     if (cobleskeg_read(file, size, &symbols, &strings, &numbers, &automata, &constraints))
         return 0;
     words = 64 * strings + numbers;
-    return cobleskeg_unpack(file, size, table, words) == 0;
+    return cobleskeg_unpack(file, size, table, words) == 0 && cobleskeg_index(file, size, steps, 2 * (strings + numbers)) == 0;
 }
 
 int main(int arguments, char **argument)

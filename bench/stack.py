@@ -9,7 +9,7 @@ from patterns import PATTERNS
 from problems import PROBLEMS, rules
 
 PROGRAM = ROOT / "target" / "stack"
-CALLS = [("search", 1), ("search", 1000), ("settle", 0), ("step", 0), ("perform", 0)]  # the entry, and the budget of a search
+CALLS = [("search", 1), ("search", 1000), ("settle", 0), ("by_index", 0), ("step", 0), ("perform", 0)]  # the entry, and the budget of a search
 HIGHEST = 64  # symbols
 
 
@@ -21,8 +21,8 @@ def used(content, entry, number):
 def main():
     options = ["-std=gnu11", "-O2", "-Wall", "-Wextra", "-Werror", f"-I{ROOT / 'include'}", "-pthread"]
     subprocess.run(["cc", *options, ROOT / "bench" / "stack.c", archive(), "-o", PROGRAM], check=True)
-    print("| problem | Search, one node | Search, up to 1,000 | Settle | each Step | Perform |")
-    print("|---|---|---|---|---|---|")
+    print("| problem | Search, one node | Search, up to 1,000 | Settle | Settle by index | each Step | Perform |")
+    print("|---|---|---|---|---|---|---|")
     for what, problem in [(what, problem) for _, what, problem in PROBLEMS] + [("64 rules of 32 states on 16 strings", rules())]:
         content = problem.file()
         print(f"| {what} | {' | '.join(f'{used(content, *call):,}' for call in CALLS)} |", flush=True)

@@ -27,6 +27,8 @@
  *   15  text    the number of symbols is not 1 to 64, or a letter's symbol is not below it
  *   16  text    its automaton has more than 32 states
  *   17  buffer  it is shorter than the automaton's bytes
+ *   18  index   it has not 2 (s + t) words
+ *   19  index   its words are not the index of this file
  *
  * What the caller sees to, and no entry can test: a pointer is not null (also where the count beside it is 0) and is aligned for its type, the memory behind
  * it has as many elements as the count says, and no memory that an entry writes overlaps other memory that it is given. Given that, every call ends and
@@ -60,9 +62,13 @@ extern "C" {
 /* The number that stands for Settle in a list of calls. */
 #define COBLESKEG_SETTLE UINT32_C(4294967295)
 
-/* The largest problem file, in bytes, and the largest table, in words. */
+/* The number that stands for Settle by index in a list of calls that is lent an index. */
+#define COBLESKEG_SETTLE_BY_INDEX UINT32_C(4294967294)
+
+/* The largest problem file, in bytes, and the largest table and the largest index, in words. */
 #define COBLESKEG_LARGEST_FILE 25024
 #define COBLESKEG_LARGEST_TABLE 1040
+#define COBLESKEG_LARGEST_INDEX 64
 
 /* The longest text of a pattern, and the largest automaton, in bytes. */
 #define COBLESKEG_LONGEST_PATTERN 63
@@ -93,6 +99,18 @@ uint8_t cobleskeg_step(const uint8_t *file, size_t size, size_t j, uint64_t *tab
  * every variable still has a value, else 0. */
 uint8_t cobleskeg_settle(const uint8_t *file, size_t size, uint64_t *table, size_t words, uint32_t *rounds, uint8_t *every_value);
 
+/* Index: which steps touch each variable of the file. For each string and then each number `index` has two words, the low one first: bit j of the two
+ * together is 1 where step j touches the variable, as a constraint touches the strings and numbers among its arguments, and a trimming its string.
+ * Refuses 1 to 8, then 18. Accepted, every word of `index` is written. */
+uint8_t cobleskeg_index(const uint8_t *file, size_t size, uint64_t *index, size_t index_words);
+
+/* Settle by index: the table that Settle leaves, mostly by fewer steps. All steps wait in the order of their numbers; the first of them is run, and where it
+ * struck anything, every other step that shares a variable with it and is not waiting waits behind the others, the lowest number first; until none waits.
+ * Refuses 1 to 10, then 18 and 19. Accepted, `table` is what Settle would leave of it, `steps` counts the steps run, and `every_value` is 1 where every
+ * variable still has a value, else 0. */
+uint8_t cobleskeg_settle_by_index(const uint8_t *file, size_t size, const uint64_t *index, size_t index_words, uint64_t *table, size_t words,
+                                  uint32_t *steps, uint8_t *every_value);
+
 /* Search: the first solution of the file's problem, strings before numbers and lower ones first, within a budget of nodes.
  * Refuses 1 to 8, then 12 and 13. Accepted, `outcome` and `nodes` are written and the first 3 (64 s + t) words of `room` are 0; its words beyond stay.
  *   COBLESKEG_FOUND  `table` holds the first solution, one length bit a string, one symbol bit a place, one bit a number; `nodes` counts up to its node
@@ -104,6 +122,11 @@ uint8_t cobleskeg_search(const uint8_t *file, size_t size, uint32_t budget, uint
 /* Perform: a list of calls on one table, one after the other. A number of the list is that of a step, or COBLESKEG_SETTLE.
  * A call that is refused leaves `table` as it was, and the list goes on. No bit of `table` that a solution within it uses is lost. */
 void cobleskeg_perform(const uint8_t *file, size_t size, const uint32_t *list, size_t calls, uint64_t *table, size_t words);
+
+/* Perform by index: the same, with an index that is lent for all calls. A number of the list is that of a step, COBLESKEG_SETTLE, or
+ * COBLESKEG_SETTLE_BY_INDEX. */
+void cobleskeg_perform_by_index(const uint8_t *file, size_t size, const uint32_t *list, size_t calls, const uint64_t *index, size_t index_words,
+                                uint64_t *table, size_t words);
 
 /* Compile: the automaton of a pattern over the symbols 0 to symbols - 1, as the bytes that stand for it in a problem file. `text` is the pattern, in ASCII.
  * Its letters are 0 to 9 for the symbols 0 to 9, `.` for 10, a to z for 11 to 36, `-` for 37 and `/` for 38. Branches are parted by `|`, items stand side by

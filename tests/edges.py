@@ -6,6 +6,8 @@ from laid import stands
 
 MARK = 7  # in every lent word before the call, where no table is given
 SETTLE = 2**32 - 1  # the call Settle in a list of calls
+BY_INDEX = 2**32 - 2  # the call Settle by index in a list of calls that is lent an index
+ROOM_AT = 2048  # the place of the room's first word among the lent words, as crates/edges/src/main.rt counts them
 
 
 def automaton(k, q, accepting=1, moves=None):
@@ -169,6 +171,7 @@ STEPS = [
     ("P14, step 4: Z is tidy", P14, 4, T14, "struck 0", None),
     ("P14, step 5 is none", P14, 5, T14, "refused 11", None),
     ("P14, the greatest number is no step", P14, 2**32 - 1, T14, "refused 11", None),
+    ("P14, the number of Settle by index is no step", P14, BY_INDEX, T14, "refused 11", None),
     ("P1 Trim", over(4, 1, 0, []), 0, row({1, 2}, {0}), "struck 1", row({1}, {0})),
     ("P2 Eq", over(4, 2, 0, [EQ]), 0, table([P2X, P2Y]), "struck 18", table([NOTHING, NOTHING])),
     ("P3 Eq", over(4, 2, 0, [EQ]), 0, table([row({0, 2}, {0}, {1}), row({0, 1, 2}, {0}, {2})]), "struck 7", table([EMPTY, EMPTY])),
@@ -248,9 +251,155 @@ LISTS = [
     ("Settle", P14, [SETTLE], T14, SETTLED14),
     ("a refused call between two steps", P14, [1, 5, 0], T14, SETTLED14),
     ("refused calls only", P14, [5, SETTLE - 1], T14, None),
+    ("Settle by index, where no index is lent, is a step that is not there", P14, [BY_INDEX, 0, BY_INDEX], T14, CAT14),
     ("Settle, and steps that find nothing to strike", P14, [SETTLE, 0, 1, 2, 3, 4, SETTLE], T14, SETTLED14),
     ("a lent table a word short", PLAIN, [0, SETTLE], MARKS[1:], None),
     ("a bit at k in a lent symbol word", PLAIN, [0, SETTLE], table([row({1}, {4})], [()]), None),
+]
+
+# ---- Index: (what is tried, file, words lent, answer, words afterwards; None where they are untouched)
+
+
+def pairs(*touching):
+    """The index of variables that these steps touch, each a set of step numbers: two words for each, the low one first."""
+    return [word for steps in touching for word in (bits(j for j in steps if j < 64), bits(j - 64 for j in steps if j >= 64))]
+
+
+# Steps 0 Cat(X, Y, Z), 1 Len(X, n), then the trimmings 2, 3 and 4.
+INDEX14 = [7, 0, 9, 0, 17, 0, 2, 0]
+# The same for Len(Y, n) in the place of Len(X, n).
+OTHER14 = [5, 0, 11, 0, 17, 0, 2, 0]
+# Step 0 is Len(X, n), step 1 the trimming.
+SMALL, INDEX_SMALL = over(4, 1, 1, [LEN]), [3, 0, 1, 0]
+# Each kind once. The automaton is no variable: string 0 and number 0 are not named by Regular(2, 0). The trimmings are 7, 8 and 9.
+KINDS = over(4, 3, 2, [(1, 0, 1, 0), (2, 1, 2, 0), (3, 0, 2, 0), (4, 0, 1, 2), (5, 1, 2, 1), (6, 2, 0, 0), (7, 2, 0, 0)], [TWO])
+INDEX_KINDS = pairs({0, 2, 3, 7}, {0, 1, 3, 4, 8}, {1, 2, 3, 4, 5, 6, 9}, {5}, {4})
+# 63 constraints: the trimming of string 0 is the last bit of a low word, that of string 1 the first of a high one.
+LENS63 = over(1, 2, 1, [LEN] * 63)
+INDEX63 = [2**64 - 1, 0, 0, 1, 2**63 - 1, 0]
+# 64 constraints and no number: the last word is not 0. Step 64 trims string 0, step 65 string 1.
+EQS64 = over(1, 2, 0, [EQ] * 64)
+INDEX_EQS = [2**64 - 1, 1, 2**64 - 1, 2]
+# 64 constraints and 16 strings: Eq(14, 15) is 0, and 1 to 63 are Len(15, n). Strings 0 to 13 have their trimmings alone, steps 64 to 77; string 14 is touched
+# by 0 and 78, string 15 by 0 to 63 and 79, the number by 1 to 63.
+MOST = over(1, 16, 1, [(1, 14, 15, 0)] + [(6, 15, 0, 0)] * 63)
+INDEX_MOST = [word for x in range(14) for word in (0, 2**x)] + [1, 2**14] + [2**64 - 1, 2**15] + [2**64 - 2, 0]
+# Constraint i of the largest file is Sub(i, i + 1, i), modulo 16: string x is touched by those of x and of x - 1 and by trimming 64 + x, number n by those
+# of n.
+INDEX_LARGEST = pairs(*({i for i in range(64) if i % 16 in (x, (x - 1) % 16)} | {64 + x} for x in range(16)), *(range(n, 64, 16) for n in range(16)))
+
+INDEXES = [
+    ("s, t, c, d all 0", file(), 0, "done", []),
+    ("P14", P14, 8, "done", INDEX14),
+    ("each kind of constraint", KINDS, 10, "done", INDEX_KINDS),
+    ("no constraint at all", over(4, 2, 1, []), 6, "done", [1, 0, 2, 0, 0, 0]),
+    ("numbers alone", over(4, 0, 2, []), 4, "done", [0, 0, 0, 0]),
+    ("step 63 is a trimming", LENS63, 6, "done", INDEX63),
+    ("step 64 is a trimming", EQS64, 4, "done", INDEX_EQS),
+    ("64 constraints and 16 strings: step 79", MOST, 34, "done", INDEX_MOST),
+    ("the largest file", largest(), 64, "done", INDEX_LARGEST),
+    ("a word short", P14, 7, "refused 18", None),
+    ("a word long", P14, 9, "refused 18", None),
+    ("no word", P14, 0, "refused 18", None),
+    ("a word for each variable", P14, 4, "refused 18", None),
+    ("as many words as the table", P14, 193, "refused 18", None),
+    ("a word for no variable", file(), 1, "refused 18", None),
+]
+
+# ---- Settle by index: (what is tried, file, index, lent table, steps run and whether every variable has a value, table afterwards; None where it is untouched)
+
+SHORT = row({1, 2}, {0}, {0})  # 0 or 00
+# Steps 0 Eq(X, Y), 1 Cat(X, Y, Z), 2 Len(X, n), and the trimmings 3, 4 and 5.
+ORDERED = over(1, 3, 1, [EQ, CAT, LEN])
+INDEX_ORDERED = pairs({0, 1, 2, 3}, {0, 1, 4}, {1, 5}, {2})
+LONG = row({2, 3, 4}, *[{0}] * 4)
+UNEVEN = [EMPTY] * 14 + [SHORT, SHORT]
+EVEN = [EMPTY] * 14 + [string(0), string(0)]
+BAD_SYMBOL = table([row({1}, {4})], [()])  # for PLAIN, whose symbols are 0 to 3
+
+QUEUES = [
+    ("s, t, c, d all 0", file(), [], [], "steps 0 true", None),
+    # 0 strikes while all others wait, so none joins; 1 strikes, and 0 joins; 2, 3, 4 and 0 strike nothing
+    ("P14", P14, INDEX14, T14, "steps 6 true", SETTLED14),
+    ("P14, settled: each step once", P14, INDEX14, SETTLED14, "steps 5 true", None),
+    ("P14, solved: each step once", P14, INDEX14, SOLVED14, "steps 5 true", None),
+    # 0 strikes, and 1 takes all of X; 0 joins behind 2, 3 and 4, takes all of Y and Z, and all others join
+    ("P14, a number with no value: it goes on", P14, INDEX14, table([X14, Y14, Z14], [()]), "steps 10 false", table([NOTHING] * 3, [()])),
+    ("no constraint at all: each trimming once", over(4, 2, 1, []), [1, 0, 2, 0, 0, 0], table([row({0}, {1}), row({1}, {2}, {3})], [{5}]), "steps 2 true",
+     table([EMPTY, string(2)], [{5}])),
+    ("numbers alone, one with no value", over(4, 0, 2, []), [0] * 4, table([], [{5}, ()]), "steps 0 false", None),
+    ("a string with no length", over(4, 1, 0, []), [1, 0], row((), {1}), "steps 1 false", NOTHING),
+    # Regular strikes, and does not join itself; the trimming waits already
+    ("P13: a step doesn't make itself join", over(2, 1, 0, [(7, 0, 0, 0)], [PARITY]), [3, 0], row({1, 2}, {0}, {0, 1}), "steps 2 true", string(0, 0)),
+    ("P2's rows: both empty", over(4, 2, 0, [EQ]), [3, 0, 5, 0], table([P2X, P2Y]), "steps 3 false", table([NOTHING, NOTHING])),
+    # 0 Len leaves X the length 2; 1 Eq empties X and Y, 0 joins behind 2 and 3; 0 takes the number, 1 and 2 join
+    ("it goes on after P2's rows are empty", over(4, 2, 1, [LEN, EQ]), [7, 0, 10, 0, 1, 0], table([P2X, P2Y], [{2}]), "steps 7 false",
+     table([NOTHING, NOTHING], [()])),
+    # 1 Len strikes of Y: 0 joins behind 2 and 3, and 3, which waits, not again; 0 strikes of X: 1, 2 and 3 join
+    ("a step that still waits doesn't join twice", TWO_LENS, [5, 0, 11, 0, 2, 0], table([SHORT] * 2, [{1}]), "steps 8 true", table([string(0)] * 2, [{1}])),
+    # 2 Len strikes of X: 0 and 1 join behind 3, 4 and 5, 0 in front. So 0 tells Y before 1 looks at Z, and 2, 3, 4 join behind 1; 1 strikes of Z, 0 and 5 join.
+    # With 1 in front, Z would be struck twice
+    ("the lowest number joins first", ORDERED, INDEX_ORDERED, table([SHORT, SHORT, LONG], [{1}]), "steps 13 true",
+     table([string(0), string(0), string(0, 0)], [{1}])),
+    # 1 strikes of string 15 and 0 joins behind 2 to 79; 0 strikes of string 14, and 1 to 63, 78 and 79 join: 80 + 1 + 65
+    ("64 constraints and 16 strings: step 79 joins", MOST, INDEX_MOST, table(UNEVEN, [{1}]), "steps 146 true", table(EVEN, [{1}])),
+    ("64 constraints and 16 strings, settled", MOST, INDEX_MOST, table(EVEN, [{1}]), "steps 80 true", None),
+    ("64 constraints, no number", EQS64, INDEX_EQS, table([SHORT, string(0)]), "steps 66 true", table([string(0)] * 2)),
+    ("bits at k and above in a lent length and number word", PLAIN, [1, 0, 0, 0], table([row({0, 63})], [{4, 63}]), "steps 1 true", table([EMPTY], [{4, 63}])),
+    ("a lent table a word short", PLAIN, [1, 0, 0, 0], MARKS[1:], "refused 9", None),
+    ("a lent table a word long", PLAIN, [1, 0, 0, 0], MARKS + [MARK], "refused 9", None),
+    ("a bit at k in a lent symbol word", PLAIN, [1, 0, 0, 0], BAD_SYMBOL, "refused 10", None),
+    ("the table's size is looked at before the index's", PLAIN, [1, 0, 0], MARKS[1:], "refused 9", None),
+    ("the table's size is looked at before the index's words", PLAIN, [0, 0, 0, 0], MARKS[1:], "refused 9", None),
+    ("the lent symbols are looked at before the index's size", PLAIN, [1, 0, 0, 0, 0], BAD_SYMBOL, "refused 10", None),
+    ("the lent symbols are looked at before the index's words", PLAIN, [2, 0, 0, 0], BAD_SYMBOL, "refused 10", None),
+    ("an index a word short", P14, INDEX14[:-1], T14, "refused 18", None),
+    ("an index a word long", P14, INDEX14 + [0], T14, "refused 18", None),
+    ("an index of no word", P14, [], T14, "refused 18", None),
+    ("an index of a word for no variable", file(), [0], [], "refused 18", None),
+    ("the index's size is looked at before its words", P14, [MARK] * 9, T14, "refused 18", None),
+    ("the index of another file", P14, OTHER14, T14, "refused 19", None),
+    ("the index of another file, on a settled table", P14, OTHER14, SETTLED14, "refused 19", None),
+    ("an index of no step", P14, [0] * 8, T14, "refused 19", None),
+    ("an index of every step", P14, [31, 0] * 4, T14, "refused 19", None),
+    ("low and high words exchanged", P14, [0, 7, 0, 9, 0, 17, 0, 2], T14, "refused 19", None),
+    ("numbers before strings", P14, [2, 0, 7, 0, 9, 0, 17, 0], T14, "refused 19", None),
+    ("all low words before all high ones", P14, [7, 9, 17, 2, 0, 0, 0, 0], T14, "refused 19", None),
+    ("the trimmings before the constraints", P14, [25, 0, 10, 0, 12, 0, 16, 0], T14, "refused 19", None),
+    ("a step that is not there", P14, [7 + 32, 0, 9, 0, 17, 0, 2, 0], T14, "refused 19", None),
+    ("low and high words exchanged, 64 constraints", EQS64, [1, 2**64 - 1, 2, 2**64 - 1], table([SHORT, string(0)]), "refused 19", None),
+    ("the last word without its bit", EQS64, INDEX_EQS[:3] + [0], table([SHORT, string(0)]), "refused 19", None),
+    ("the last word with one bit more", EQS64, INDEX_EQS[:3] + [3], table([SHORT, string(0)]), "refused 19", None),
+    ("the first word without its highest bit", EQS64, [2**63 - 1] + INDEX_EQS[1:], table([SHORT, string(0)]), "refused 19", None),
+    ("the first word without its lowest bit", EQS64, [2**64 - 2] + INDEX_EQS[1:], table([SHORT, string(0)]), "refused 19", None),
+    ("step 79 missing", MOST, INDEX_MOST[:31] + [0] + INDEX_MOST[32:], table(UNEVEN, [{1}]), "refused 19", None),
+]
+# each word of an index with its first and with its last bit another
+QUEUES += [
+    (f"word {i} with bit {b} another", SMALL, INDEX_SMALL[:i] + [INDEX_SMALL[i] ^ 1 << b] + INDEX_SMALL[i + 1 :], table([SHORT], [{1}]), "refused 19", None)
+    for i in range(4)
+    for b in (0, 63)
+]
+QUEUES += [("and with none", SMALL, INDEX_SMALL, table([SHORT], [{1}]), "steps 2 true", table([string(0)], [{1}]))]
+
+# ---- lists of calls with an index: (what is tried, file, calls, index, lent table, table afterwards; None where it is untouched)
+
+LISTS_BY_INDEX = [
+    ("no call", P14, [], INDEX14, T14, None),
+    ("no call and no index", P14, [], [], T14, None),
+    ("Settle by index", P14, [BY_INDEX], INDEX14, T14, SETTLED14),
+    ("Settle by index with another file's index", P14, [BY_INDEX], OTHER14, T14, None),
+    ("Settle by index with an index a word short", P14, [BY_INDEX], INDEX14[:-1], T14, None),
+    ("the list goes on after another file's index", P14, [BY_INDEX, 0, BY_INDEX], OTHER14, T14, CAT14),
+    ("the list goes on after an index a word long", P14, [1, BY_INDEX, 0], INDEX14 + [0], T14, SETTLED14),
+    ("Settle and Step don't look at the index", P14, [1, SETTLE], OTHER14, T14, SETTLED14),
+    ("one step", P14, [0], INDEX14, T14, CAT14),
+    ("a refused step, and Settle by index", P14, [5, BY_INDEX], INDEX14, T14, SETTLED14),
+    ("the number below that of Settle by index is no step", P14, [BY_INDEX - 1], INDEX14, T14, None),
+    ("all of them", P14, [BY_INDEX, 0, 1, 2, 3, 4, SETTLE, BY_INDEX], INDEX14, T14, SETTLED14),
+    ("no variable", file(), [BY_INDEX, SETTLE], [], [], None),
+    ("a lent table a word short", PLAIN, [BY_INDEX, 0], [1, 0, 0, 0], MARKS[1:], None),
+    ("a bit at k in a lent symbol word", PLAIN, [BY_INDEX, 0], [1, 0, 0, 0], BAD_SYMBOL, None),
 ]
 
 # ---- Search: (what is tried, file, budget, words of room, words of the answer table, answer, answer table afterwards; None where it is untouched)
@@ -297,7 +446,7 @@ SEARCHES = [
     ("an empty suffix further behind 01", problem(4, [string(0, 1), EMPTY], [{4}], [(5, 0, 1, 0)]), 1, 387, 129, "none 1", None),
 ]
 
-# ---- refusals 1 to 8 come first: the lent table and the room have the wrong size for each of these files, and there is no such step
+# ---- refusals 1 to 8 come first: the lent table, the room and the index have the wrong size for each of these files, and there is no such step
 
 REFUSED = {
     1: file()[1:],
@@ -311,7 +460,10 @@ REFUSED = {
 }
 STEPS += [(f"refusal {n} comes first", content, 99, [MARK], f"refused {n}", None) for n, content in REFUSED.items()]
 SETTLES += [(f"refusal {n} comes first", content, [MARK], f"refused {n}", None) for n, content in REFUSED.items()]
+INDEXES += [(f"refusal {n} comes first", content, 1, f"refused {n}", None) for n, content in REFUSED.items()]
+QUEUES += [(f"refusal {n} comes first", content, [MARK], [MARK], f"refused {n}", None) for n, content in REFUSED.items()]
 LISTS += [(f"a file with refusal {n}", content, [0, SETTLE], [MARK], None) for n, content in REFUSED.items()]
+LISTS_BY_INDEX += [(f"a file with refusal {n}", content, [BY_INDEX, 0], [MARK], [MARK], None) for n, content in REFUSED.items()]
 SEARCHES += [(f"refusal {n} comes first", content, 1, 1, 1, f"refused {n}", None) for n, content in REFUSED.items()]
 
 # ---- patterns
@@ -404,9 +556,10 @@ def case(content, lent):
     return laid(0, content, lent)
 
 
-def on_table(operation, content, words, argument=0, calls=()):
-    """A call on a lent table."""
-    return laid(operation, content, len(words), fill=0, argument=argument, changes=[(i, w) for i, w in enumerate(words) if w], calls=calls)
+def on_table(operation, content, words, argument=0, calls=(), index=()):
+    """A call on a lent table, and on an index, which is lent as the room."""
+    changes = [(i, w) for i, w in enumerate(words) if w] + [(ROOM_AT + i, w) for i, w in enumerate(index) if w]
+    return laid(operation, content, len(words), room=len(index), fill=0, argument=argument, changes=changes, calls=calls)
 
 
 def answer(a):
@@ -436,6 +589,21 @@ def room_after(content, room, answered):
     return [0] * cleared + [MARK] * (room - cleared)
 
 
+def by_index():
+    """The cases with an index, as `listing` gives them."""
+    given, printed = [], []
+    for _, content, lent, answered, after in INDEXES:
+        given.append(laid(6, content, 0, room=lent))
+        printed.append(f"index {answered}" + left([MARK] * lent, after))
+    for _, content, index, lent, answered, after in QUEUES:
+        given.append(on_table(7, content, lent, index=index))
+        printed.append(f"settle by index {answered}" + left(lent, after))
+    for _, content, calls, index, lent, after in LISTS_BY_INDEX:
+        given.append(on_table(8, content, lent, calls=calls, index=index))
+        printed.append("perform by index" + left(lent, after))
+    return given, printed
+
+
 def listing():
     """The program's standard input, and what it must print."""
     given, printed = [], []
@@ -458,13 +626,17 @@ def listing():
         given.append(laid(5, text, 0, room=lent, argument=k))
         written = b"" if isinstance(answered, int) else answered
         printed.append("compile " + (f"written {len(written)}" if written else answer(answered)) + left([], list(written) + [MARK] * (lent - len(written))))
-    return b"".join(given), "".join(line + "\n" for line in printed).encode()
+    more, lines = by_index()
+    return b"".join(given + more), "".join(line + "\n" for line in printed + lines).encode()
 
 
 def main():
     if not stands("edges", listing()):
         return 1
-    counts = ((EDGES, "files"), (STEPS, "steps"), (SETTLES, "settlings"), (SEARCHES, "searches"), (LISTS, "lists of calls"), (PATTERNS, "patterns"))
+    counts = (
+        *((EDGES, "files"), (STEPS, "steps"), (SETTLES, "settlings"), (INDEXES, "indexes"), (QUEUES, "settlings by index"), (SEARCHES, "searches")),
+        *((LISTS + LISTS_BY_INDEX, "lists of calls"), (PATTERNS, "patterns")),
+    )
     print("edges: " + ", ".join(f"{len(cases)} {name}" for cases, name in counts) + " stand in crates/edges")
     return 0
 

@@ -7,18 +7,8 @@ from pathlib import Path
 from laid import stands
 
 sys.path.insert(0, str(Path(__file__).resolve().parent.parent / "bench"))
-from problems import Problem, checked, clash, codes, no_clash, pigeons
+from problems import checked, clash, codes, no_clash, p14, pigeons
 from search import BUDGET, case
-
-
-def p14():
-    """P14 of document 01."""
-    p = Problem("01")
-    x, y, z, n = p.string([1, 2]), p.string([0, 1], "1"), p.string([2]), p.number(range(4))
-    p.rows[z][1] = p.word("0")
-    p.cat(x, y, z)
-    p.len(x, n)
-    return p
 
 
 CASES = [

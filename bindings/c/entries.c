@@ -6,16 +6,19 @@
 #include <stdio.h>
 #include <string.h>
 
-enum { WORDS = 3 * 64 + 1, ROOM = 3 * WORDS, SIZE = 8 * WORDS + 8 + 24, TRAILER = SIZE - 24, RECORDS = 8 * WORDS };
+enum { WORDS = 3 * 64 + 1, ROOM = 3 * WORDS, SIZE = 8 * WORDS + 8 + 24, TRAILER = SIZE - 24, RECORDS = 8 * WORDS, INDEX = 2 * (3 + 1) };
 enum { SPARE = 3, MARK = 7 };
 
 /* Lent to the entries. Words beyond those that are lent stay marked. */
 static uint8_t file[SIZE];
-static uint64_t table[WORDS + SPARE], room[ROOM + SPARE];
+static uint64_t table[WORDS + SPARE], room[ROOM + SPARE], index_words[INDEX + SPARE];
 static uint8_t buffer[COBLESKEG_LARGEST_AUTOMATON + SPARE];
 static size_t symbols, strings, numbers, automata, constraints, written;
-static uint32_t struck, rounds, nodes;
+static uint32_t struck, rounds, steps, nodes;
 static uint8_t every_value, outcome;
+
+/* Steps 0 Cat(X, Y, Z) and 1 Len(X, number), then the trimmings of X, Y and Z; and the same with Len(Y, number). */
+static const uint64_t p14_index[INDEX] = {7, 0, 9, 0, 17, 0, 2, 0}, other_index[INDEX] = {5, 0, 11, 0, 17, 0, 2, 0};
 
 static unsigned checks, failures;
 
@@ -51,17 +54,19 @@ static void p14_file(void)
     memcpy(file + RECORDS, end, sizeof end);
 }
 
-/* Marks the results and the room; the table is P14's, and marked beyond. */
+/* Marks the results, the room and the index; the table is P14's, and marked beyond. */
 static void lend(void)
 {
     symbols = strings = numbers = automata = constraints = MARK;
-    struck = rounds = nodes = MARK;
+    struck = rounds = steps = nodes = MARK;
     every_value = outcome = MARK;
     p14_table(table);
     for (int i = 0; i < SPARE; i++)
         table[WORDS + i] = MARK;
     for (int i = 0; i < ROOM + SPARE; i++)
         room[i] = MARK;
+    for (int i = 0; i < INDEX + SPARE; i++)
+        index_words[i] = MARK;
 }
 
 static int all(const uint64_t *words, int from, int to, uint64_t wanted)
@@ -83,8 +88,9 @@ static int untouched(uint64_t changed)
     uint64_t wanted[WORDS];
     p14_table(wanted);
     wanted[191] = changed;
-    return table_is(wanted) && all(room, 0, ROOM + SPARE, MARK) && symbols == MARK && strings == MARK && numbers == MARK && automata == MARK &&
-           constraints == MARK && struck == MARK && rounds == MARK && nodes == MARK && every_value == MARK && outcome == MARK;
+    return table_is(wanted) && all(room, 0, ROOM + SPARE, MARK) && all(index_words, 0, INDEX + SPARE, MARK) && symbols == MARK && strings == MARK &&
+           numbers == MARK && automata == MARK && constraints == MARK && struck == MARK && rounds == MARK && steps == MARK && nodes == MARK &&
+           every_value == MARK && outcome == MARK;
 }
 
 static uint8_t read_it(size_t size)
@@ -113,6 +119,17 @@ static void perform_it(size_t size, uint32_t first, uint32_t second, size_t word
     cobleskeg_perform(file, size, list, 2, table, words);
 }
 
+static uint8_t settle_by(const uint64_t *index, size_t count, size_t words)
+{
+    return cobleskeg_settle_by_index(file, SIZE, index, count, table, words, &steps, &every_value);
+}
+
+static void perform_by(const uint64_t *index, size_t count, uint32_t first, uint32_t second, size_t words)
+{
+    const uint32_t list[2] = {first, second};
+    cobleskeg_perform_by_index(file, SIZE, list, 2, index, count, table, words);
+}
+
 /* Read, Unpack, Step, Settle and Perform, accepted. Cat leaves X only 0 at place 1, Len leaves the number 1 and 2; then nothing is struck. */
 static void accepted(void)
 {
@@ -136,6 +153,35 @@ static void accepted(void)
     check(table_is(wanted), "perform takes both steps", 0);
     table[0] = table[64] = table[128] = 2; /* all three of length 1 */
     check(settle_it(WORDS) == 0 && every_value == 0, "settle says that a value is missing", 0);
+}
+
+/* Index, Settle by index and Perform by index, accepted. Len strikes when Cat has been run, which waits again behind the trimmings: six steps. */
+static void accepted_by_index(void)
+{
+    uint64_t wanted[WORDS];
+    p14_table(wanted);
+    lend();
+    check(cobleskeg_index(file, SIZE, index_words, INDEX) == 0 && memcmp(index_words, p14_index, sizeof p14_index) == 0 &&
+              all(index_words, INDEX, INDEX + SPARE, MARK),
+          "index writes its words", 0);
+    wanted[1] = 1;
+    perform_by(other_index, INDEX, COBLESKEG_SETTLE_BY_INDEX, 0, WORDS);
+    check(table_is(wanted), "perform by index goes on after another file's index", 0);
+    lend();
+    perform_it(SIZE, COBLESKEG_SETTLE_BY_INDEX, 0, WORDS);
+    check(table_is(wanted), "perform has no step of the number of settle by index", 0);
+    lend();
+    wanted[192] = 6;
+    check(settle_by(p14_index, INDEX, WORDS) == 0 && steps == 6 && every_value == 1 && table_is(wanted), "settle by index runs six steps", 0);
+    check(settle_by(p14_index, INDEX, WORDS) == 0 && steps == 5 && every_value == 1 && table_is(wanted), "settled, it runs each once", 0);
+    lend();
+    perform_by(p14_index, INDEX, 5, COBLESKEG_SETTLE_BY_INDEX, WORDS);
+    check(table_is(wanted), "perform by index settles", 0);
+    lend();
+    perform_by(other_index, INDEX - 1, 1, COBLESKEG_SETTLE, WORDS);
+    check(table_is(wanted), "perform by index settles by rounds", 0);
+    table[192] = 0;
+    check(settle_by(p14_index, INDEX, WORDS) == 0 && every_value == 0, "settle by index says that a value is missing", 0);
 }
 
 /* Search: X is 0, Y is 1, Z is 0 1 and the number is 1, at the second node. */
@@ -167,6 +213,8 @@ static void refused_file(unsigned refusal, size_t size, int at, uint8_t byte)
     check(cobleskeg_unpack(file, size, table, 1) == refusal, "unpack refuses", refusal);
     check(cobleskeg_step(file, size, 99, table, WORDS, &struck) == refusal, "step refuses", refusal);
     check(cobleskeg_settle(file, size, table, WORDS, &rounds, &every_value) == refusal, "settle refuses", refusal);
+    check(cobleskeg_index(file, size, index_words, 1) == refusal, "index refuses", refusal);
+    check(cobleskeg_settle_by_index(file, size, p14_index, 1, table, 1, &steps, &every_value) == refusal, "settle by index refuses", refusal);
     check(cobleskeg_search(file, size, 9, room, 1, table, 1, &outcome, &nodes) == refusal, "search refuses", refusal);
     perform_it(size, 0, COBLESKEG_SETTLE, WORDS);
     check(untouched(0), "nothing is written", refusal);
@@ -201,6 +249,24 @@ static void refused_buffers(void)
     check(step_it(99, WORDS) == 10, "step refuses", 10);
     check(settle_it(WORDS) == 10, "settle refuses", 10);
     perform_it(SIZE, 0, COBLESKEG_SETTLE, WORDS);
+    check(untouched(4), "nothing is written", 10);
+}
+
+/* The table's refusals come before the index's, and its size before its words. */
+static void refused_indexes(void)
+{
+    lend();
+    check(cobleskeg_index(file, SIZE, index_words, INDEX - 1) == 18 && cobleskeg_index(file, SIZE, index_words, INDEX + 1) == 18, "index refuses", 18);
+    check(settle_by(p14_index, INDEX, WORDS - 1) == 9 && settle_by(p14_index, 0, WORDS + 1) == 9, "settle by index refuses", 9);
+    check(settle_by(p14_index, INDEX - 1, WORDS) == 18 && settle_by(index_words, INDEX + 1, WORDS) == 18, "settle by index refuses", 18);
+    check(settle_by(other_index, INDEX, WORDS) == 19 && settle_by(index_words, INDEX, WORDS) == 19, "settle by index refuses", 19);
+    perform_by(other_index, INDEX, COBLESKEG_SETTLE_BY_INDEX, 5, WORDS);
+    perform_by(p14_index, INDEX, COBLESKEG_SETTLE_BY_INDEX, COBLESKEG_SETTLE, WORDS - 1);
+    check(untouched(0), "nothing is written", 18);
+    lend();
+    table[191] = 4;
+    check(settle_by(p14_index, INDEX, WORDS) == 10 && settle_by(p14_index, 0, WORDS) == 10 && settle_by(other_index, INDEX, WORDS) == 10,
+          "settle by index refuses", 10);
     check(untouched(4), "nothing is written", 10);
 }
 
@@ -247,9 +313,11 @@ int main(void)
     check(cobleskeg_version() == COBLESKEG_VERSION, "the archive has the header's version", 0);
     p14_file();
     accepted();
+    accepted_by_index();
     searched();
     refused_files();
     refused_buffers();
+    refused_indexes();
     patterns();
     printf("entries: %u checks, %u failed\n", checks, failures);
     return failures != 0;

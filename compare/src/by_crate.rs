@@ -4,7 +4,7 @@ use crate::disagreement::{Compared, Disagreement};
 use crate::random::Random;
 use crate::solution::values;
 use crate::tally::Tally;
-use cobleskeg::{Answer, Counts, Outcome, Refusal, Settled, SETTLE};
+use cobleskeg::{Answer, Counts, Outcome, Refusal, Settled, SettledByIndex, SETTLE, SETTLE_BY_INDEX};
 use std::fmt::Debug;
 
 /// What a function of the crate answers, and the table or the buffer that it leaves.
@@ -26,7 +26,27 @@ pub fn functions(file: &[u8], random: &mut Random, table: &[u64]) -> Compared<()
         let _refused = (second::step(file, j as u64, lent), second::settle(file, lent));
         Ok(())
     });
-    same("perform", &ours, &theirs)
+    same("perform", &ours, &theirs)?;
+    by_index(file, table, j)
+}
+
+/// Those that take an index: the file's own, and its words but the last.
+fn by_index(file: &[u8], table: &[u64], j: usize) -> Compared<()> {
+    let words = vec![1; second::read(file).map_or(0, |header| counts(header).index_words())];
+    let ours = on(&words, |lent| numbered(cobleskeg::index(file, lent)));
+    same("index", &ours, &on(&words, |lent| second::index(file, lent)))?;
+    for index in [&ours.1[..], &ours.1[..ours.1.len().saturating_sub(1)]] {
+        let settled = |(steps, every_value)| SettledByIndex { steps, every_value };
+        let ours = on(table, |lent| numbered(cobleskeg::settle_by_index(file, index, lent)));
+        same("settle_by_index", &ours, &on(table, |lent| second::settle_by_index(file, index, lent).map(settled)))?;
+        let ours = on(table, |lent| Ok(cobleskeg::perform_by_index(file, &[j as u32, SETTLE_BY_INDEX], index, lent)));
+        let theirs = on(table, |lent| {
+            let _refused = (second::step(file, j as u64, lent), second::settle_by_index(file, index, lent));
+            Ok(())
+        });
+        same("perform_by_index", &ours, &theirs)?;
+    }
+    Ok(())
 }
 
 /// The automaton of a pattern, into a buffer of so many bytes.

@@ -23,8 +23,16 @@ pub struct Calls<'a> {
     pub tally: &'a mut Tally,
     /// The constraints, by the second solver; none where the file is refused.
     pub relations: Vec<Relation>,
+    /// The file's index, as the library built it; nothing where the file is refused.
+    pub index: Vec<u64>,
     /// Whether steps are also held against trying every choice.
     pub try_choices: bool,
+}
+
+/// What Settle left, in either form: the library's table, and where it was not refused the rounds or the steps run and whether every variable has a value.
+pub struct Settled {
+    pub table: Vec<u64>,
+    pub counted: Option<(u32, bool)>,
 }
 
 /// A search's answer by the header's numbers.
@@ -57,7 +65,7 @@ impl Calls<'_> {
         ended::at_entry("unpack");
         let ours = unsafe { entries::cobleskeg_unpack(file.as_ptr(), file.len(), table.ours().as_mut_ptr(), words) };
         let theirs = second::unpack(file, table.theirs());
-        self.agree(1, || format!("unpack into {words} words"), ours, theirs.err(), &[], &[&table])
+        self.agree(1, || format!("unpack into {words} words"), ours, theirs.err(), &[], &[("table", &table)])
     }
 
     pub fn step(&mut self, j: usize, words: &[u64]) -> Compared<()> {
@@ -68,7 +76,7 @@ impl Calls<'_> {
         let ours = unsafe { entries::cobleskeg_step(file.as_ptr(), file.len(), j, table.ours().as_mut_ptr(), words.len(), struck.pointer()) };
         let theirs = second::step(file, j as u64, table.theirs());
         let results = [struck.held("struck", theirs.ok())];
-        self.agree(2, || format!("step {j} on {} words", words.len()), ours, theirs.err(), &results, &[&table])?;
+        self.agree(2, || format!("step {j} on {} words", words.len()), ours, theirs.err(), &results, &[("table", &table)])?;
         let Ok(struck) = theirs else { return Ok(()) };
         if struck > 0 {
             self.tally.struck[self.relations.get(j).map_or(0, kind)] += 1;
@@ -90,11 +98,11 @@ impl Calls<'_> {
         };
         self.tally.tried += 1;
         let results = [Held { name: "struck", ours: [0, struck.into(), 0], theirs: [0, tried.into(), 0] }];
-        differing(|| format!("step {j} by trying every choice"), 0, None, &results, &[table])
+        differing(|| format!("step {j} by trying every choice"), 0, None, &results, &[("table", table)])
     }
 
-    /// Answers the table afterwards.
-    pub fn settle(&mut self, words: &[u64]) -> Compared<Vec<u64>> {
+    /// Answers what it left.
+    pub fn settle(&mut self, words: &[u64]) -> Compared<Settled> {
         let file = self.file;
         let mut table = Lent::new(&self.memory.table, self.random, words);
         let (mut rounds, mut every_value) = (Marked::new(self.random), Marked::new(self.random));
@@ -104,9 +112,9 @@ impl Calls<'_> {
         let theirs = second::settle(file, table.theirs());
         let wanted = theirs.ok();
         let results = [rounds.held("rounds", wanted.map(|(rounds, _)| rounds)), every_value.held("every_value", wanted.map(|(_, every)| every.into()))];
-        self.agree(3, || format!("settle {} words", words.len()), ours, theirs.err(), &results, &[&table])?;
+        self.agree(3, || format!("settle {} words", words.len()), ours, theirs.err(), &results, &[("table", &table)])?;
         self.tally.rounds(wanted.map_or(0, |(rounds, _)| rounds));
-        Ok(table.theirs().to_vec())
+        Ok(Settled { table: table.ours().to_vec(), counted: wanted })
     }
 
     /// Answers the outcome, or nothing where it is refused.
@@ -134,7 +142,7 @@ impl Calls<'_> {
         let wanted = theirs.ok().map(outcome);
         let results = [how.held("outcome", wanted.map(|(how, _)| how)), nodes.held("nodes", wanted.map(|(_, nodes)| nodes))];
         let call = || format!("search with budget {budget}, {room_words} words of room, {words} words for the answer");
-        self.agree(4, call, ours, theirs.err(), &results, &[&table, &room])?;
+        self.agree(4, call, ours, theirs.err(), &results, &[("table", &table), ("room", &room)])?;
         self.tally.search(budget, theirs.ok());
         if room_words >= 3 * words + 1000 && theirs.is_ok() {
             self.tally.came_up(Event::WideRoom);
@@ -161,21 +169,23 @@ impl Calls<'_> {
             };
         }
         self.tally.list(list.len());
-        self.agree(5, || format!("perform {list:?} on {} words", words.len()), 0, None, &[], &[&table])
+        self.agree(5, || format!("perform {list:?} on {} words", words.len()), 0, None, &[], &[("table", &table)])
     }
 
     /// Counts a call of this entry, and compares.
-    fn agree(&mut self, entry: usize, call: impl Fn() -> String, ours: u8, refused: Option<u8>, results: &[Held], buffers: &[&Lent]) -> Compared<()> {
+    pub fn agree(&mut self, entry: usize, call: impl Fn() -> String, ours: u8, refused: Option<u8>, results: &[Held], buffers: &[Named]) -> Compared<()> {
         self.tally.call(entry, refused);
         differing(call, ours, refused, results, buffers)
     }
 }
 
+/// A buffer with its name.
+type Named<'a> = (&'static str, &'a Lent);
+
 /// Refuses two answers that differ, and results or buffers that do. `refused` is the second solver's refusal.
-fn differing(call: impl Fn() -> String, ours: u8, refused: Option<u8>, results: &[Held], buffers: &[&Lent]) -> Compared<()> {
-    let difference = buffers.iter().enumerate().find_map(|(at, lent)| lent.difference().map(|word| (at, word)));
-    let buffer = |at: usize| if at == 0 { "table" } else { "room" };
-    let word = difference.map(|(at, (place, ours, theirs))| format!("word {place} of the {}: {ours:#x}, {theirs:#x}", buffer(at)));
+fn differing(call: impl Fn() -> String, ours: u8, refused: Option<u8>, results: &[Held], buffers: &[Named]) -> Compared<()> {
+    let difference = buffers.iter().find_map(|(name, lent)| lent.difference().map(|word| (name, word)));
+    let word = difference.map(|(name, (place, ours, theirs))| format!("word {place} of the {name}: {ours:#x}, {theirs:#x}"));
     disagreement::same(call, ours, refused, results, word)
 }
 

@@ -45,6 +45,8 @@ fn file(kind: Kind, random: &mut Random) -> Vec<u8> {
         Kind::Suffix => suffix::optional(random).bytes(),
         Kind::Large => generate::large(random).bytes(),
         Kind::Limits => generate::limits(random).bytes(),
+        Kind::Many if random.once_in(6) => late::tangle(random).bytes(),
+        Kind::Many => generate::many(random).bytes(),
         Kind::Templates => templates::clash(random).bytes(),
         Kind::Hard => hard::hard(random).bytes(),
         Kind::Late => late::difference(random).bytes(),

@@ -19,8 +19,8 @@ impl Case {
     pub fn compare(&mut self, program: Option<&Path>, memory: &Memory, tally: &mut Tally) -> Compared<()> {
         tally.kinds[self.kind as usize] += 1;
         let file = memory.bytes(&mut self.random, &self.file);
-        let (random, relations, try_choices) = (&mut self.random, Vec::new(), self.measure.try_choices);
-        let calls = Calls { file, memory, random, tally, relations, try_choices };
+        let (random, relations, index, try_choices) = (&mut self.random, Vec::new(), Vec::new(), self.measure.try_choices);
+        let calls = Calls { file, memory, random, tally, relations, index, try_choices };
         let outcome = Drive { calls, measure: self.measure, known: self.known.as_ref() }.run()?;
         if file != self.file {
             return Err(Disagreement { call: "all".into(), ours: "the file is changed".into(), theirs: String::new(), word: None });

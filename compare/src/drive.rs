@@ -6,7 +6,7 @@ use crate::disagreement::{Compared, Disagreement};
 use crate::measure::Measure;
 use crate::tables;
 use crate::trees::Known;
-use cobleskeg::SETTLE;
+use cobleskeg::{SETTLE, SETTLE_BY_INDEX};
 use second::file::Problem;
 use second::{Header, Outcome};
 
@@ -30,12 +30,15 @@ impl Drive<'_> {
         let Ok(problem) = Problem::parse(self.calls.file) else {
             return self.refused_file().map(|()| None);
         };
-        self.calls.relations = problem.constraints;
+        self.calls.relations = problem.constraints.clone();
         self.calls.unpack(problem.table.len())?;
         self.steps(&problem.header, &problem.table)?;
+        self.index(&problem.header)?;
         self.settles(&problem.header, &problem.table)?;
         self.lists(&problem.header, &problem.table)?;
+        self.lists_by_index(&problem)?;
         self.refused_buffers(&problem.header, &problem.table)?;
+        self.refused_indexes(&problem)?;
         if self.calls.random.once_in(CRATE_SHARE) {
             let table = tables::table(self.calls.random, &problem.header, &problem.table);
             by_crate::functions(self.calls.file, self.calls.random, &table)?;
@@ -61,7 +64,7 @@ impl Drive<'_> {
             self.calls.search(7, 3 * words, words)?;
             self.calls.perform(&[j as u32, SETTLE], &table)?;
         }
-        Ok(())
+        self.refused_file_by_index(strings, numbers)
     }
 
     /// Every step, or some, on the file's table and on another one; and numbers that are no step.
@@ -85,46 +88,53 @@ impl Drive<'_> {
         Ok(())
     }
 
-    /// The file's table, and any; then the file's settled one with a variable that has no value, and with a word decided, as a search goes on.
+    /// The file's table, and any; then the file's settled one with a variable that has no value, and with a word decided, as a search goes on. Each by both
+    /// forms of Settle.
     fn settles(&mut self, header: &Header, of_file: &[u64]) -> Compared<()> {
         let other = tables::table(self.calls.random, header, of_file);
-        self.calls.settle(&other)?;
-        let mut table = self.calls.settle(of_file)?;
+        self.settle_both(header, &other)?;
+        let mut table = self.settle_both(header, of_file)?;
         if self.calls.random.once_in(4) {
             let without = tables::without_value(self.calls.random, header, &table);
-            self.calls.settle(&without)?;
+            self.settle_both(header, &without)?;
         }
         let open: Vec<usize> = (0..table.len()).filter(|&i| table[i].count_ones() > 1).collect();
         if !open.is_empty() {
             let at = *self.calls.random.pick(&open);
             let values: Vec<u64> = second::domain::bits(table[at]).map(second::domain::bit).collect();
             table[at] = *self.calls.random.pick(&values);
-            self.calls.settle(&table)?;
+            self.settle_both(header, &table)?;
         }
         Ok(())
     }
 
-    /// Lists of steps, Settles and numbers that are no step, on tables of all sorts.
+    /// Lists of steps, Settles and numbers that are no step, on tables of all sorts. Without an index the number of Settle by index is no step either.
     fn lists(&mut self, header: &Header, of_file: &[u64]) -> Compared<()> {
         let steps = header.constraints + header.strings;
         for _ in 0..2 {
             let list = self.list(steps);
-            let table = match self.calls.random.below(8) {
-                0 => {
-                    let words = tables::wrong_size(self.calls.random, of_file.len());
-                    self.calls.random.words(words)
-                }
-                1 => tables::with_foreign_symbol(self.calls.random, header, of_file).unwrap_or_default(),
-                2 | 3 => of_file.to_vec(),
-                _ => tables::table(self.calls.random, header, of_file),
-            };
+            let table = self.listed_table(header, of_file);
             self.calls.perform(&list, &table)?;
         }
         Ok(())
     }
 
+    /// A table for a list of calls: at times of a wrong size, or with a symbol that there is not.
+    pub fn listed_table(&mut self, header: &Header, of_file: &[u64]) -> Vec<u64> {
+        let random = &mut *self.calls.random;
+        match random.below(8) {
+            0 => {
+                let words = tables::wrong_size(random, of_file.len());
+                random.words(words)
+            }
+            1 => tables::with_foreign_symbol(random, header, of_file).unwrap_or_default(),
+            2 | 3 => of_file.to_vec(),
+            _ => tables::table(random, header, of_file),
+        }
+    }
+
     /// A list of calls. A long one strikes something only in its last call, as far as that can be: before it are one step and numbers that are none.
-    fn list(&mut self, steps: usize) -> Vec<u32> {
+    pub fn list(&mut self, steps: usize) -> Vec<u32> {
         let longest = *self.calls.random.pick(&[0, 1, 3, 6, 12, 30, 400]).min(&self.measure.calls);
         if self.measure.calls < LONGEST_LIST || !self.calls.random.once_in(LONG_SHARE) {
             let count = self.calls.random.below(longest + 1);
@@ -132,7 +142,7 @@ impl Drive<'_> {
         }
         let count = self.calls.random.between(400, LONGEST_LIST - 1);
         let one = self.calls.random.below(steps + 1) as u32;
-        let mut list: Vec<u32> = (0..count).map(|_| *self.calls.random.pick(&[one, steps as u32, SETTLE - 1])).collect();
+        let mut list: Vec<u32> = (0..count).map(|_| *self.calls.random.pick(&[one, steps as u32, SETTLE_BY_INDEX])).collect();
         list.push(SETTLE);
         list
     }
@@ -142,7 +152,7 @@ impl Drive<'_> {
         match self.calls.random.below(16) {
             0 | 1 => SETTLE,
             2 => steps as u32,
-            3 => *self.calls.random.pick(&[SETTLE - 1, 1 << 16, 1 << 31, 65_535, 255, 256]),
+            3 => *self.calls.random.pick(&[SETTLE_BY_INDEX, 1 << 16, 1 << 31, 65_535, 255, 256]),
             4 => self.calls.random.word() as u32,
             _ => self.calls.random.below(steps + 1) as u32,
         }

@@ -1,4 +1,4 @@
-//! Problems of any kind of constraint: small and dense ones, large ones, and those at the limits.
+//! Problems of any kind of constraint: small and dense ones, large ones, those at the limits, and those of many steps.
 
 use crate::draft::{any, below, just, Draft, Row, LIMIT, NOTHING};
 use crate::random::Random;
@@ -44,6 +44,20 @@ pub fn large(random: &mut Random) -> Draft {
         constraints: random.between(3, 20),
         longest: *random.pick(&[10, 20, 40, 62, 63]),
         states: 32,
+    };
+    problem(random, &shape)
+}
+
+/// Short strings, but more than 64 steps and often all 80: steps of both words of an index narrow what others have to run for again.
+pub fn many(random: &mut Random) -> Draft {
+    let shape = Shape {
+        symbols: *random.pick(&[1, 2, 2, 3]),
+        strings: *random.pick(&[16, 16, 16, 12]),
+        numbers: random.between(1, 16),
+        automata: random.between(1, 8),
+        constraints: *random.pick(&[64, 64, 64, 63, 50]),
+        longest: *random.pick(&[1, 2, 3, 5, 9]),
+        states: 4,
     };
     problem(random, &shape)
 }
@@ -255,7 +269,7 @@ mod tests {
     fn what_is_generated_is_accepted() {
         for index in 0..300 {
             let random = &mut Random::new(1, index);
-            for (draft, most) in [(small(random), 5_000), (large(random), 25_024), (limits(random), 25_024)] {
+            for (draft, most) in [(small(random), 5_000), (large(random), 25_024), (limits(random), 25_024), (many(random), 10_000)] {
                 let file = draft.bytes();
                 assert!(file.len() <= most, "{} bytes", file.len());
                 let header = second::read(&file).unwrap_or_else(|number| panic!("index {index}: refused {number}"));
@@ -269,6 +283,16 @@ mod tests {
     fn the_largest_file_comes_up() {
         let largest = (0..300).filter(|&index| limits(&mut Random::new(1, index)).bytes().len() == cobleskeg::LARGEST_FILE).count();
         assert!(largest >= 3, "{largest} of 300");
+    }
+
+    #[test]
+    fn many_have_80_steps() {
+        let steps = |index| {
+            let draft = many(&mut Random::new(1, index));
+            draft.rows.len() + draft.records.len()
+        };
+        let all = (0..100).filter(|&index| steps(index) == 80).count();
+        assert!(all >= 25, "{all} of 100");
     }
 
     #[test]

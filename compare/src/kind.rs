@@ -12,6 +12,7 @@ pub enum Kind {
     Suffix,
     Large,
     Limits,
+    Many,
     Templates,
     Hard,
     Late,
@@ -29,11 +30,12 @@ pub enum Kind {
 
 impl Kind {
     /// In the order above.
-    pub const ALL: [Kind; 17] = [
+    pub const ALL: [Kind; 18] = [
         Kind::Small,
         Kind::Suffix,
         Kind::Large,
         Kind::Limits,
+        Kind::Many,
         Kind::Templates,
         Kind::Hard,
         Kind::Late,
@@ -55,6 +57,7 @@ impl Kind {
             Kind::Suffix => "optional suffixes",
             Kind::Large => "large",
             Kind::Limits => "at the limits",
+            Kind::Many => "many steps",
             Kind::Templates => "templates",
             Kind::Hard => "hard",
             Kind::Late => "late differences",
@@ -74,10 +77,11 @@ impl Kind {
     /// In how many of 10,000 cases it is picked. The costly kinds are rare, since one of them takes as long as hundreds of small ones.
     fn share(self) -> usize {
         match self {
-            Kind::Small => 3480,
+            Kind::Small => 3380,
             Kind::Suffix => 200,
             Kind::Large => 250,
             Kind::Limits => 70,
+            Kind::Many => 100,
             Kind::Templates => 700,
             Kind::Hard => 200,
             Kind::Late => 500,

@@ -115,6 +115,21 @@ pub fn chain(random: &mut Random) -> Draft {
     draft
 }
 
+/// Such strings with as many steps as there can be: any two of them are the same or each other's reverse. Whatever one step strikes, dozens have to run again.
+pub fn tangle(random: &mut Random) -> Draft {
+    let mut draft = Draft::over(random.between(1, 2));
+    let (symbols, longest) = (below(draft.symbols), *random.pick(&[3, 5, 8]));
+    let part = draft.string(just(&[0]));
+    let mut names: Vec<u8> = (1..16).map(|_| draft.string(any(0, longest, symbols))).collect();
+    while draft.records.len() < 63 {
+        random.shuffle(&mut names);
+        draft.records.push([*random.pick(&[1, 3]), names[0], names[1], 0]);
+    }
+    draft.cat(names[0], part, names[1]);
+    random.shuffle(&mut draft.records);
+    draft
+}
+
 #[cfg(test)]
 mod tests {
     use super::*;
@@ -123,7 +138,7 @@ mod tests {
     fn what_is_generated_is_accepted() {
         for index in 0..500 {
             let random = &mut Random::new(14, index);
-            for draft in [difference(random), chain(random)] {
+            for draft in [difference(random), chain(random), tangle(random)] {
                 assert!(second::read(&draft.bytes()).is_ok(), "index {index}");
             }
         }
@@ -140,6 +155,17 @@ mod tests {
         };
         let many = (0..20).filter(|&index| rounds(index) > 34).count();
         assert!(many >= 5, "{many} of 20");
+    }
+
+    #[test]
+    fn tangles_have_80_steps_and_run_many() {
+        for index in 0..20 {
+            let file = tangle(&mut Random::new(15, index)).bytes();
+            let problem = second::file::Problem::parse(&file).unwrap();
+            assert_eq!(problem.header.constraints + problem.header.strings, 80);
+            let run = second::queue::settle(&problem, &mut problem.table.clone());
+            assert!(run.len() > 160 && run.iter().filter(|&&step| step == 79).count() > 1, "{} steps run", run.len());
+        }
     }
 
     /// Two strings of 63 that differ at place 50 alone: what Neq, Eq and Rev make of them is plain.

@@ -1,5 +1,5 @@
-//! What is lent to the library: buffers that lie against a page that nobody may touch, with marked words on their other side, and a file, a text and a list
-//! that cannot be written.
+//! What is lent to the library: buffers that lie against a page that nobody may touch, with marked words on their other side, and a file, a text, a list and
+//! an index that cannot be written.
 
 use crate::pages::Pages;
 use crate::random::Random;
@@ -11,6 +11,7 @@ const TABLE_WORDS: usize = 1 << 15;
 const ROOM_WORDS: usize = 1 << 17;
 const FILE_BYTES: usize = 1 << 18;
 const LIST_CALLS: usize = 1 << 14;
+const INDEX_WORDS: usize = 1 << 13;
 const AUTOMATON_BYTES: usize = 1 << 16;
 
 /// How many words beside a buffer of words are looked at, or bytes beside one of bytes; many of them at times only, since they cost time.
@@ -23,13 +24,15 @@ pub struct Memory {
     pub automaton: Rc<Pages>,
     bytes: Pages,
     list: Pages,
+    index: Pages,
 }
 
 impl Memory {
     pub fn new() -> Memory {
         let [table, room] = [TABLE_WORDS, ROOM_WORDS].map(|words| Rc::new(Pages::new(8 * words)));
         let automaton = Rc::new(Pages::new(AUTOMATON_BYTES));
-        Memory { table, room, automaton, bytes: Pages::new(FILE_BYTES), list: Pages::new(4 * LIST_CALLS) }
+        let [bytes, list, index] = [FILE_BYTES, 4 * LIST_CALLS, 8 * INDEX_WORDS].map(Pages::new);
+        Memory { table, room, automaton, bytes, list, index }
     }
 
     /// A file or a text, at any address: it ends where the pages end, or begins a few bytes behind their start. It can only be read. There is one at a time.
@@ -42,13 +45,19 @@ impl Memory {
     pub fn list(&self, list: &[u32]) -> &[u32] {
         lay(&self.list, self.list.bytes() - 4 * list.len(), list)
     }
+
+    /// An index at either end of its pages. It can only be read.
+    pub fn index(&self, random: &mut Random, index: &[u64]) -> &[u64] {
+        let from = if random.once_in(2) { 0 } else { self.index.bytes() - 8 * index.len() };
+        lay(&self.index, from, index)
+    }
 }
 
 /// Copies the elements to a place of the pages, where they can only be read from then on.
 fn lay<'a, T: Copy>(pages: &'a Pages, from: usize, elements: &[T]) -> &'a [T] {
     assert!(from + size_of_val(elements) <= pages.bytes(), "it is larger than its pages");
     pages.allow_writing();
-    // The pages hold the bytes from this place on, and the place fits the type: bytes fit anywhere, and a list ends at the end of its pages.
+    // The pages hold the bytes from this place on, and the place fits the type: bytes fit anywhere, and a list or an index begins or ends where its pages do.
     let laid = unsafe {
         let at = pages.start().add(from).cast::<T>();
         at.copy_from_nonoverlapping(elements.as_ptr(), elements.len());
@@ -165,13 +174,15 @@ mod tests {
     }
 
     #[test]
-    fn a_file_and_a_list_are_laid_as_they_are() {
+    fn what_is_only_read_is_laid_as_it_is() {
         let (random, memory) = (&mut Random::new(10, 0), Memory::new());
         for size in [0, 1, 24, 1000, 150_000] {
             let file: Vec<u8> = (0..size).map(|_| random.byte()).collect();
             assert_eq!(memory.bytes(random, &file), file);
             let list: Vec<u32> = (0..size.min(9000)).map(|n| n as u32).collect();
             assert_eq!(memory.list(&list), list);
+            let index = random.words(size.min(2000));
+            assert_eq!(memory.index(random, &index), index);
         }
     }
 }

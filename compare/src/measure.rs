@@ -20,6 +20,7 @@ impl Measure {
         let (budgets, steps, calls): ([u32; 3], usize, usize) = match kind {
             Kind::Large => ([3, 20, 60], 40, 60),
             Kind::Limits => ([2, 10, 30], 30, 20),
+            Kind::Many => ([3, 20, 60], 30, 20),
             Kind::Suffix | Kind::Templates => ([30, 100, 300], 40, 60),
             Kind::Hard => ([300, 1000, 3000], 100, 60),
             Kind::Late => ([3, 20, 60], 40, 60),

@@ -1,5 +1,6 @@
 //! What has been compared, and whether anything never came up.
 
+use crate::by_index::ByIndex;
 use crate::kind::Kind;
 use crate::patterns::Texts;
 use crate::trees::{Shape, BUSHY, DEEP, FAR};
@@ -8,8 +9,10 @@ use second::file::LARGEST_FILE;
 use second::Outcome;
 use std::fmt::Display;
 
-const ENTRIES: [&str; 7] = ["read", "unpack", "step", "settle", "search", "perform", "solve"];
+const ENTRIES: [&str; 10] = ["read", "unpack", "step", "settle", "search", "perform", "solve", "index", "settle_by_index", "perform_by_index"];
 const OUTCOMES: [&str; 3] = ["found", "none", "spent"];
+/// Those of all entries but Compile.
+const REFUSALS: [u8; 15] = [1, 2, 3, 4, 5, 6, 7, 8, 9, 10, 11, 12, 13, 18, 19];
 const RELATIONS: [&str; 8] = ["trimming", "Eq", "Neq", "Rev", "Cat", "Sub", "Len", "Regular"];
 
 /// What is far from where most cases are, and must come up all the same.
@@ -70,11 +73,11 @@ pub struct Tally {
     /// Cases by their kind.
     pub kinds: [u64; Kind::ALL.len()],
     /// Calls by their entry, in the order of the names above.
-    entries: [u64; 7],
+    entries: [u64; ENTRIES.len()],
     /// Searches by their outcome.
     outcomes: [u64; 3],
     /// Refused calls by their number; none has the number 0.
-    refusals: [u64; 14],
+    refusals: [u64; 20],
     /// Steps that struck something, by the kind of their constraint; trimming is 0.
     pub struck: [u64; 8],
     events: [u64; EVENTS.len()],
@@ -84,6 +87,7 @@ pub struct Tally {
     pub tried: u64,
     /// Runs of the program.
     pub runs: u64,
+    pub by_index: ByIndex,
     pub texts: Texts,
 }
 
@@ -194,23 +198,26 @@ impl Tally {
         self.maxima.iter_mut().zip(&other.maxima).for_each(|(most, value)| *most = (*most).max(*value));
         self.tried += other.tried;
         self.runs += other.runs;
+        self.by_index.add(&other.by_index);
         self.texts.add(&other.texts);
     }
 
     /// Every count with its name, group by group; those of the program only where there is a program.
     fn groups(&self, program: bool) -> Groups {
-        let refusals: Vec<u8> = (1..=13).collect();
+        let refused = REFUSALS.map(|number| self.refusals[usize::from(number)]);
         let events = if program { EVENTS.len() } else { Event::Pieces as usize };
-        vec![
+        let mut groups = vec![
             ("cases", named(&Kind::ALL.map(Kind::name), &self.kinds)),
             ("calls", named(&ENTRIES, &self.entries)),
             ("searches", named(&OUTCOMES, &self.outcomes)),
-            ("refused", named(&refusals, &self.refusals[1..])),
+            ("refused", named(&REFUSALS, &refused)),
             ("steps that struck", named(&RELATIONS, &self.struck)),
             ("steps by every choice", named(&["tried"], &[self.tried])),
             ("far out", named(&EVENTS[..events], &self.events)),
             ("greatest", named(&MAXIMA, &self.maxima)),
-        ]
+        ];
+        groups.extend(self.by_index.groups());
+        groups
     }
 
     /// All counts of cases in one line.
@@ -271,13 +278,15 @@ mod tests {
         tally.refusals[1..].fill(1);
         tally.outcomes = [1, 0, 1];
         tally.refusals[12] = 0;
+        tally.refusals[19] = 0;
         tally.rounds(34);
         tally.list(401);
         let missing = tally.missing(true);
-        for name in ["searches: none", "refused: 12", "runs of the program", "cases: small", "far out: rounds beyond 34"] {
+        for name in ["searches: none", "refused: 12", "refused: 19", "runs of the program", "cases: small", "far out: rounds beyond 34", "indexes lent: right"]
+        {
             assert!(missing.contains(&name.to_string()), "{name} in {missing:?}");
         }
-        for name in ["refused: 13", "far out: lists beyond 400 calls", "greatest: rounds"] {
+        for name in ["refused: 13", "refused: 18", "far out: lists beyond 400 calls", "greatest: rounds"] {
             assert!(!missing.contains(&name.to_string()), "{name} in {missing:?}");
         }
         tally.texts.string(false);

@@ -7,6 +7,7 @@ pub mod file;
 pub mod header;
 pub mod pattern;
 pub mod plain;
+pub mod queue;
 pub mod relations;
 pub mod search;
 pub mod settle;
@@ -55,6 +56,32 @@ pub fn settle(file: &[u8], table: &mut [u64]) -> Result<(u32, bool), u8> {
     let problem = checked_table(file, table)?;
     let rounds = settle::settle(&problem, table);
     Ok((rounds, settle::all_have_a_value(&problem, table)))
+}
+
+/// Writes the file's index into the lent words. Refusals 1 to 8, then 18.
+pub fn index(file: &[u8], index: &mut [u64]) -> Result<(), u8> {
+    let problem = Problem::parse(file)?;
+    let right = queue::index(&problem);
+    if index.len() != right.len() {
+        return Err(18);
+    }
+    index.copy_from_slice(&right);
+    Ok(())
+}
+
+/// Steps by the queue's rule until none waits; answers the steps run, and
+/// whether every variable has a value. Refusals 1 to 10, then 18 and 19.
+pub fn settle_by_index(file: &[u8], index: &[u64], table: &mut [u64]) -> Result<(u32, bool), u8> {
+    let problem = checked_table(file, table)?;
+    let right = queue::index(&problem);
+    if index.len() != right.len() {
+        return Err(18);
+    }
+    if index != right {
+        return Err(19);
+    }
+    let run = queue::settle(&problem, table);
+    Ok((run.len() as u32, settle::all_have_a_value(&problem, table)))
 }
 
 /// The tree search on the file's table. Refusals 1 to 8, then 12 and 13.

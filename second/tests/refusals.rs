@@ -25,6 +25,10 @@ fn all_refuse(file: &[u8], number: u8) {
     assert_eq!(second::unpack(file, &mut lent), Err(number));
     assert_eq!(second::step(file, 0, &mut lent), Err(number));
     assert_eq!(second::settle(file, &mut lent), Err(number));
+    assert_eq!(second::settle_by_index(file, &[1; 6], &mut lent), Err(number));
+    let mut index = vec![1; 6];
+    assert_eq!(second::index(file, &mut index), Err(number));
+    assert_eq!(index, vec![1; 6]);
     let mut room = vec![1; 3 * WORDS];
     assert_eq!(second::search(file, 9, &mut room, &mut lent), Err(number));
     assert_eq!(lent, vec![1; WORDS]);
@@ -314,6 +318,27 @@ fn refusals_12_13() {
     assert_eq!(try_with(3 * WORDS + 1, WORDS), None);
 }
 
+/// The index of `good`: Neq, Regular, and the trimmings 2 and 3.
+const INDEX: [u64; 6] = [0b0101, 0, 0b1011, 0, 0, 0];
+
+/// With an index of this length, one bit of it changed or not: 18 and 19 come
+/// after the refusals before them.
+fn settles_by_index(file: &[u8], lent: &[u64], (length, bit): (usize, u64), before: Option<u8>) {
+    let mut index = INDEX.to_vec();
+    index.resize(length, 0);
+    index[5] ^= bit << 63;
+    let mut table = lent.to_vec();
+    let wanted = before.or((length != 6).then_some(18)).or((bit != 0).then_some(19));
+    assert_eq!(second::settle_by_index(file, &index, &mut table).err(), wanted);
+    assert!(wanted.is_none() || table == lent);
+    // Building it refuses by the file, then by the length alone.
+    let to_8 = before.filter(|&number| number <= 8);
+    let wanted = to_8.or((length != 6).then_some(18));
+    let was = index.clone();
+    assert_eq!(second::index(file, &mut index).err(), wanted);
+    assert_eq!(index, if wanted.is_some() { was } else { INDEX.to_vec() });
+}
+
 /// Every set of refusals that apply at once: the first must win.
 #[test]
 fn the_first_that_applies() {
@@ -375,6 +400,9 @@ fn the_first_that_applies() {
         if wanted.is_some() {
             assert_eq!(lent, lent_before);
         }
+        for index in [(6, 0), (7, 0), (6, 1), (7, 1)] {
+            settles_by_index(&file, &lent_before, index, to_8.or(first(&[9, 10])));
+        }
         let wanted = to_8.or(first(&[12, 13]));
         assert_eq!(second::search(&file, 3, &mut room, &mut answer).err(), wanted);
         if wanted.is_some() {
@@ -419,6 +447,9 @@ fn no_panic() {
         let stepped = second::step(&file, j, &mut lent);
         assert!(stepped.err() == read.err() || stepped == Err(11));
         assert_eq!(second::settle(&file, &mut lent).err(), read.err());
+        let mut index = vec![0; read.map_or(6, |h| 2 * (h.strings + h.numbers))];
+        assert_eq!(second::index(&file, &mut index).err(), read.err());
+        assert_eq!(second::settle_by_index(&file, &index, &mut lent).err(), read.err());
         let mut room = vec![0; 3 * words];
         let searched = second::search(&file, 20, &mut room, &mut lent);
         assert_eq!(searched.err(), read.err());

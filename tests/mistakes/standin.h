@@ -33,6 +33,11 @@ uint8_t proved_settle(const uint8_t *file, size_t size, uint64_t *table, size_t 
 uint8_t proved_search(const uint8_t *file, size_t size, uint32_t budget, uint64_t *room, size_t room_words, uint64_t *table, size_t words,
                       uint8_t *outcome, uint32_t *nodes);
 void proved_perform(const uint8_t *file, size_t size, const uint32_t *list, size_t calls, uint64_t *table, size_t words);
+uint8_t proved_index(const uint8_t *file, size_t size, uint64_t *index, size_t index_words);
+uint8_t proved_settle_by_index(const uint8_t *file, size_t size, const uint64_t *index, size_t index_words, uint64_t *table, size_t words,
+                               uint32_t *steps, uint8_t *every_value);
+void proved_perform_by_index(const uint8_t *file, size_t size, const uint32_t *list, size_t calls, const uint64_t *index, size_t index_words,
+                             uint64_t *table, size_t words);
 uint8_t proved_compile(const uint8_t *text, size_t size, size_t symbols, uint8_t *buffer, size_t room, size_t *written);
 
 #endif

@@ -14,6 +14,17 @@ extern "C" {
     pub fn cobleskeg_unpack(file: *const u8, size: usize, table: *mut u64, words: usize) -> u8;
     pub fn cobleskeg_step(file: *const u8, size: usize, j: usize, table: *mut u64, words: usize, struck: *mut u32) -> u8;
     pub fn cobleskeg_settle(file: *const u8, size: usize, table: *mut u64, words: usize, rounds: *mut u32, every_value: *mut u8) -> u8;
+    pub fn cobleskeg_index(file: *const u8, size: usize, index: *mut u64, index_words: usize) -> u8;
+    pub fn cobleskeg_settle_by_index(
+        file: *const u8,
+        size: usize,
+        index: *const u64,
+        index_words: usize,
+        table: *mut u64,
+        words: usize,
+        steps: *mut u32,
+        every_value: *mut u8,
+    ) -> u8;
     pub fn cobleskeg_search(
         file: *const u8,
         size: usize,
@@ -26,5 +37,15 @@ extern "C" {
         nodes: *mut u32,
     ) -> u8;
     pub fn cobleskeg_perform(file: *const u8, size: usize, list: *const u32, calls: usize, table: *mut u64, words: usize);
+    pub fn cobleskeg_perform_by_index(
+        file: *const u8,
+        size: usize,
+        list: *const u32,
+        calls: usize,
+        index: *const u64,
+        index_words: usize,
+        table: *mut u64,
+        words: usize,
+    );
     pub fn cobleskeg_compile(text: *const u8, size: usize, symbols: usize, buffer: *mut u8, room: usize, written: *mut usize) -> u8;
 }

@@ -37,11 +37,17 @@ pub use solve::{solve, Answer};
 /// The number that stands for Settle in a list of calls, see [`perform`].
 pub const SETTLE: u32 = u32::MAX;
 
+/// The number that stands for Settle by index in a list of calls that is lent an index, see [`perform_by_index`].
+pub const SETTLE_BY_INDEX: u32 = 4_294_967_294;
+
 /// The bytes of the largest problem file.
 pub const LARGEST_FILE: usize = 25_024;
 
 /// The words of the largest table.
 pub const LARGEST_TABLE: usize = 1_040;
+
+/// The words of the largest index.
+pub const LARGEST_INDEX: usize = 64;
 
 /// The bytes of the longest text of a pattern, see [`compile`].
 pub const LONGEST_PATTERN: usize = 63;
@@ -49,8 +55,8 @@ pub const LONGEST_PATTERN: usize = 63;
 /// The bytes of the largest automaton, 32 states over 64 symbols.
 pub const LARGEST_AUTOMATON: usize = 2_053;
 
-/// The bytes of stack that a thread should have which calls [`search`], [`solve`], [`settle`], [`step`] or [`perform`]: more than twice what they were measured
-/// to take. The threads that Rust makes have more.
+/// The bytes of stack that a thread should have which calls [`search`], [`solve`], [`settle`], [`settle_by_index`], [`step`], [`perform`] or
+/// [`perform_by_index`]: more than twice what they were measured to take. The threads that Rust makes have more.
 pub const STACK: usize = 65_536;
 
 /// The counts of a problem file.
@@ -73,6 +79,11 @@ impl Counts {
     pub fn steps(&self) -> usize {
         self.constraints + self.strings
     }
+
+    /// The words of the index of this problem.
+    pub fn index_words(&self) -> usize {
+        2 * (self.strings + self.numbers)
+    }
 }
 
 /// What [`settle`] answers.
@@ -80,6 +91,15 @@ impl Counts {
 pub struct Settled {
     /// The rounds, the last included, which struck nothing.
     pub rounds: u32,
+    /// Whether every variable still has a value.
+    pub every_value: bool,
+}
+
+/// What [`settle_by_index`] answers.
+#[derive(Clone, Copy, Debug, PartialEq, Eq)]
+pub struct SettledByIndex {
+    /// The steps run.
+    pub steps: u32,
     /// Whether every variable still has a value.
     pub every_value: bool,
 }
@@ -139,6 +159,28 @@ pub fn settle(file: &[u8], table: &mut [u64]) -> Result<Settled, Refusal> {
     Ok(Settled { rounds, every_value: every_value != 0 })
 }
 
+/// Writes the index of the file into `index`: for each string and then each number two words, the low one first, in which bit j of the two together is 1 where
+/// step j touches the variable. A constraint touches the strings and numbers among its arguments, a trimming its string.
+///
+/// Refuses 1 to 8, then 18.
+pub fn index(file: &[u8], index: &mut [u64]) -> Result<(), Refusal> {
+    Refusal::check(unsafe { entries::cobleskeg_index(file.as_ptr(), file.len(), index.as_mut_ptr(), index.len()) })
+}
+
+/// Leaves in `table` what [`settle`] would leave, mostly by fewer steps: all steps wait in the order of their numbers, the first is run, and where it struck
+/// anything, every other step that shares a variable with it and is not waiting waits behind the others, the lowest number first; until none waits. `index` is
+/// what [`index`](fn@index) writes for this file.
+///
+/// Refuses 1 to 10, then 18 and 19.
+pub fn settle_by_index(file: &[u8], index: &[u64], table: &mut [u64]) -> Result<SettledByIndex, Refusal> {
+    let (mut steps, mut every_value) = (0, 0);
+    let (index_at, index_words, table_at, words) = (index.as_ptr(), index.len(), table.as_mut_ptr(), table.len());
+    Refusal::check(unsafe {
+        entries::cobleskeg_settle_by_index(file.as_ptr(), file.len(), index_at, index_words, table_at, words, &mut steps, &mut every_value)
+    })?;
+    Ok(SettledByIndex { steps, every_value: every_value != 0 })
+}
+
 /// Searches the file's problem for its first solution, within a budget of nodes. `room` has at least three times the words of `table`; so many of it are 0
 /// afterwards, and those beyond are untouched. `table` is written only by [`Outcome::Found`].
 ///
@@ -159,6 +201,13 @@ pub fn search(file: &[u8], budget: u32, room: &mut [u64], table: &mut [u64]) -> 
 /// goes on; so nothing is refused here.
 pub fn perform(file: &[u8], list: &[u32], table: &mut [u64]) {
     unsafe { entries::cobleskeg_perform(file.as_ptr(), file.len(), list.as_ptr(), list.len(), table.as_mut_ptr(), table.len()) }
+}
+
+/// The same with an index that is lent for all calls: a number is that of a step, [`SETTLE`], or [`SETTLE_BY_INDEX`]. A call that is refused, also for the
+/// index, leaves `table` as it was, and the list goes on.
+pub fn perform_by_index(file: &[u8], list: &[u32], index: &[u64], table: &mut [u64]) {
+    let (index_at, index_words, table_at, words) = (index.as_ptr(), index.len(), table.as_mut_ptr(), table.len());
+    unsafe { entries::cobleskeg_perform_by_index(file.as_ptr(), file.len(), list.as_ptr(), list.len(), index_at, index_words, table_at, words) }
 }
 
 /// Writes the automaton of a pattern over the symbols 0 to `symbols` - 1 to the start of `buffer`, as it stands in a problem file. Answers how many bytes it

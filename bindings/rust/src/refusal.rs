@@ -3,7 +3,7 @@
 use std::error::Error;
 use std::fmt;
 
-/// The first refusal that applies, by its number from 1 to 17. Whatever was lent is as it was.
+/// The first refusal that applies, by its number from 1 to 19. Whatever was lent is as it was.
 #[derive(Clone, Copy, Debug, PartialEq, Eq, Hash)]
 pub struct Refusal(u8);
 
@@ -40,6 +40,8 @@ impl Refusal {
             15 => "the number of symbols is not 1 to 64, or a letter's symbol is not below it",
             16 => "the automaton has more than 32 states",
             17 => "the buffer is shorter than the automaton's bytes",
+            18 => "the index has not two words for each variable of the problem",
+            19 => "the words of the index are not the index of this file",
             _ => "no entry refuses by this number",
         }
     }

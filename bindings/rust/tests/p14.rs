@@ -2,23 +2,7 @@
 
 mod common;
 use cobleskeg::{perform, read, search, settle, solve, step, unpack, Answer, Counts, Outcome, Settled, SETTLE};
-use common::{p14, p14_table, solved, ROOM, WORDS};
-
-const NUMBER: usize = WORDS - 1;
-
-/// Cat leaves X only 0 at place 1, where Z has nothing else.
-fn after_cat() -> Vec<u64> {
-    let mut table = p14_table();
-    table[1] = 0b1;
-    table
-}
-
-/// Len leaves the number the lengths 1 and 2.
-fn after_both() -> Vec<u64> {
-    let mut table = after_cat();
-    table[NUMBER] = 0b110;
-    table
-}
+use common::{after_both, after_cat, p14, p14_table, solved, ROOM, WORDS};
 
 #[test]
 fn the_counts() {

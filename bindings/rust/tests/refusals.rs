@@ -1,8 +1,9 @@
 //! Each refusal by its number, and that it leaves what was lent.
 
 mod common;
-use cobleskeg::{perform, read, search, settle, solve, step, unpack, Answer, Counts, Outcome, Refusal, Settled, SETTLE};
-use common::{bare, p14, p14_table, ROOM, WORDS};
+use cobleskeg::{index, perform, perform_by_index, read, search, settle, settle_by_index, solve, step, unpack};
+use cobleskeg::{Answer, Counts, Outcome, Refusal, Settled, SETTLE, SETTLE_BY_INDEX};
+use common::{bare, p14, p14_table, P14_INDEX, ROOM, WORDS};
 
 fn number<T: std::fmt::Debug>(answer: Result<T, Refusal>) -> u8 {
     answer.expect_err("it must refuse").number()
@@ -32,15 +33,18 @@ fn refused_files() -> Vec<(u8, Vec<u8>)> {
 #[test]
 fn refused_files_1_to_8() {
     for (n, file) in refused_files() {
-        let (mut table, mut room) = (p14_table(), vec![7; ROOM]);
+        let (mut table, mut room, mut words) = (p14_table(), vec![7; ROOM], [7; 1]);
         assert_eq!(number(read(&file)), n);
         assert_eq!(number(unpack(&file, &mut table)), n);
         assert_eq!(number(step(&file, 0, &mut table)), n);
         assert_eq!(number(settle(&file, &mut table)), n);
+        assert_eq!(number(index(&file, &mut words)), n);
+        assert_eq!(number(settle_by_index(&file, &words, &mut table)), n);
         assert_eq!(number(search(&file, 9, &mut room, &mut table)), n);
         assert_eq!(number(solve(&file, 9)), n);
         perform(&file, &[0, SETTLE], &mut table);
-        assert_eq!((table, room), (p14_table(), vec![7; ROOM]));
+        perform_by_index(&file, &[SETTLE_BY_INDEX, 0], &P14_INDEX, &mut table);
+        assert_eq!((table, room, words), (p14_table(), vec![7; ROOM], [7]));
     }
 }
 

@@ -1,6 +1,7 @@
 //! The stack that a thread is told to have is enough where the entries need most: Regular on strings of 63 symbols, every count of it at its limit.
 
-use cobleskeg::{perform, read, search, settle, step, unpack, BuildError, Builder, Outcome, Row, Values, SETTLE, STACK};
+use cobleskeg::{index, perform, perform_by_index, read, search, settle, settle_by_index, step, unpack};
+use cobleskeg::{BuildError, Builder, Outcome, Row, Values, LARGEST_INDEX, SETTLE, SETTLE_BY_INDEX, STACK};
 use std::thread;
 
 /// 16 strings of up to 63 symbols out of 64, each held to four of 8 automata of 32 states. Automaton r accepts a string of length n where r n and its symbols sum
@@ -31,6 +32,13 @@ fn enough_for_every_entry() -> Result<(), BuildError> {
         assert!(step(&file, 0, &mut table).is_ok());
         assert!(settle(&file, &mut table).is_ok());
         perform(&file, &[SETTLE], &mut table);
+        let mut words = [0; LARGEST_INDEX];
+        let words = &mut words[..counts.index_words()];
+        index(&file, words).unwrap();
+        unpack(&file, &mut table).unwrap();
+        assert!(settle_by_index(&file, words, &mut table).is_ok());
+        unpack(&file, &mut table).unwrap();
+        perform_by_index(&file, &[SETTLE_BY_INDEX], words, &mut table);
     };
     thread::Builder::new().stack_size(STACK).spawn(calls).unwrap().join().unwrap();
     Ok(())

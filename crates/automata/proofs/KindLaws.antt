@@ -17,7 +17,7 @@ use Rattle.laws.proofs.ListLaws.{and-true, true-and}
 use Rattle.laws.proofs.ReadingLaws.{pieces-length}
 use Rattle.laws.proofs.WordLaws.{in-bits, noneFrom-bits, noneFrom-within, pow-self, pow-only, or-bit-left, or-bit-right, of-or-bit}
 use Rattle.laws.proofs.WordLaws.{bit-high, bit-sub, sub-within}
-use Rattle.laws.proofs.ShiftLaws.{bit-and, bit-flip}
+use Rattle.laws.proofs.ShiftLaws.{bit-and, without-bit}
 use Rattle.words.specs.Ends.{Lowest}
 use Rattle.automata.specs.Machine.{stateCount, machine}
 use Rattle.automata.specs.Walk.{Held, Starts}
@@ -240,10 +240,6 @@ covering-end ks at w rest r z g = record { within = g .within; each = λ b y. �
 no-right : (t : Bool) → (t && false) ≡ false
 no-right true = refl
 no-right false = refl
-
--- what is left of a word without another
-without-bit : (v u b : ℕ) → u < 2 ^ 64 → b < 64 → bit (bitAnd v (2 ^ 64 - 1 - u)) b ≡ (bit v b && not (bit u b))
-without-bit v u b h l = bit-and v (2 ^ 64 - 1 - u) b ∙ ap (λ (t : Bool). bit v b && t) (bit-flip 64 u b h l)
 
 module _ (ks : List ℕ) (at w rest r a o : ℕ) (fits : w < 2 ^ 64) (low : Lowest rest a) (e : o ≡ 2 ^ a) (h : word ks (at + a) < 2 ^ 64) (so : o < 2 ^ 64)
     (g : Covering ks at w rest r) where

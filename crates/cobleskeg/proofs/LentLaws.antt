@@ -75,7 +75,7 @@ module _ (P : Problem) (T : List ℕ) where
       go true q = refl
       go false q = absurd (some-number q)
 
-  not-lent : (n : ℕ) → n ≡ lentNumber P T → (n ≡ 0 → ⊥) → (lendable P T ≡ false) × (n ≡ unlendable P T)
+  pub not-lent : (n : ℕ) → n ≡ lentNumber P T → (n ≡ 0 → ⊥) → (lendable P T ≡ false) × (n ≡ unlendable P T)
   unfolding lentNumber
   not-lent n e z = go (lendable P T) e
     where
@@ -93,7 +93,7 @@ module _ (file : List ℕ) (l : Layout) (told : (replyOf file l ≡ accepted fil
     looked-over = let f = usable .fits in (f .symbols-some, f .symbols-most, f .strings-most, f .numbers-most)
 
     module _ (n : ℕ) (number : (P : Problem) → P .symbols ≡ p .k → P .strings ≡ p .s → P .numbers ≡ p .t → n ≡ lentNumber P T) where
-      is-number : n ≡ lentNumber (problemIn file p) T
+      pub is-number : n ≡ lentNumber (problemIn file p) T
       is-number = let c = usable-counts file p usable in number (problemIn file p) (c .symbols) (c .strings) (c .numbers)
 
       pub table-lent : n ≡ 0 → Usable file p × (lendable (problemIn file p) T ≡ true)

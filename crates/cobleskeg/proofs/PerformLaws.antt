@@ -13,9 +13,10 @@ use Rattle.model.specs.Replies.{answered, leaves}
 use Rattle.model.specs.Layout.{Bytes}
 use Rattle.model.specs.Reading.{Accepted, Reading, reading}
 use Rattle.model.specs.Operations.{Stepped, step, Settlement, settle}
+use Rattle.model.specs.Queue.{Queued, settleByIndex}
 use Rattle.model.specs.Claim.{Call, call, calls, NoStepStrikes, Holds, ListClaim}
 use Rattle.laws.proofs.Demand.{demand-3}
-use Rattle.cobleskeg.specs.Claims.{callOf, ListHolds}
+use Rattle.cobleskeg.specs.Claims.{callOf, callByIndex, ListHolds, IndexesRefused}
 
 -- ---- one call
 
@@ -27,6 +28,16 @@ pub step-call : (r : Reading) (n : ℕ) (T U : List ℕ) → (n ≡ 4294967295 �
 unfolding callOf call
 step-call r n T U e u = rw (ne-eqb n 4294967295 e) u
 
+-- of a list that is lent an index
+module _ (r : Reading) (I : List ℕ) (n : ℕ) (T U : List ℕ) where
+  pub by-index-call : n ≡ 4294967294 → U ≡ leaves (λ (a : Queued). a .table) (settleByIndex r I T) T → U ≡ call r (callByIndex I n) T
+  unfolding callByIndex call
+  by-index-call e u = rw (eq-eqb n 4294967294 e) u
+
+  pub other-call : (n ≡ 4294967294 → ⊥) → U ≡ call r (callOf n) T → U ≡ call r (callByIndex I n) T
+  unfolding callByIndex
+  other-call e u = rw (ne-eqb n 4294967294 e) u
+
 -- ---- one after the other
 
 calls-append : (r : Reading) (cs ds : List Call) (T : List ℕ) → calls r (cs ++ ds) T ≡ calls r ds (calls r cs T)
@@ -34,24 +45,25 @@ unfolding calls
 calls-append r [] ds T = refl
 calls-append r (c ∷ cs) ds T = calls-append r cs ds (call r c T)
 
--- the first i calls of the list make U of T
-pub record Called (r : Reading) (ns : List ℕ) (T : List ℕ) (i : ℕ) (U : List ℕ) : Type 0 where
-  pub made : U ≡ calls r (map callOf (take i ns)) T
+-- the first i calls of the list make U of T, where f says which call a number stands for
+pub record Called (r : Reading) (f : ℕ → Call) (ns : List ℕ) (T : List ℕ) (i : ℕ) (U : List ℕ) : Type 0 where
+  pub made : U ≡ calls r (map f (take i ns)) T
 
-pub called-none : (r : Reading) (ns T : List ℕ) → Called r ns T 0 T
-unfolding calls
-called-none r ns T = record { made = refl }
+module _ (r : Reading) (f : ℕ → Call) (ns T : List ℕ) where
+  pub called-none : Called r f ns T 0 T
+  unfolding calls
+  called-none = record { made = refl }
 
-pub called-next : (r : Reading) (ns T : List ℕ) (i : ℕ) (U W : List ℕ) → i < length ns → W ≡ call r (callOf (getD ns i 0)) U → Called r ns T i U → Called r ns T (i + 1) W
-unfolding calls
-called-next r ns T i U W h e c = record {
-  made = e ∙ ap (call r (callOf (getD ns i 0))) (c .made) ∙ sym (calls-append r (map callOf (take i ns)) (callOf (getD ns i 0) ∷ []) T)
-      ∙ ap (λ (cs : List Call). calls r cs T) (sym (map-append callOf (take i ns) (getD ns i 0 ∷ [])))
-      ∙ ap (λ (l : List ℕ). calls r (map callOf l) T) (sym (take-suc ns i 0 h) ∙ ap (λ (k : ℕ). take k ns) (sym (add-one i)));
-}
+  pub called-next : (i : ℕ) (U W : List ℕ) → i < length ns → W ≡ call r (f (getD ns i 0)) U → Called r f ns T i U → Called r f ns T (i + 1) W
+  unfolding calls
+  called-next i U W h e c = record {
+    made = e ∙ ap (call r (f (getD ns i 0))) (c .made) ∙ sym (calls-append r (map f (take i ns)) (f (getD ns i 0) ∷ []) T)
+        ∙ ap (λ (cs : List Call). calls r cs T) (sym (map-append f (take i ns) (getD ns i 0 ∷ [])))
+        ∙ ap (λ (l : List ℕ). calls r (map f l) T) (sym (take-suc ns i 0 h) ∙ ap (λ (k : ℕ). take k ns) (sym (add-one i)));
+  }
 
-pub called-all : (r : Reading) (ns T : List ℕ) (i : ℕ) (U : List ℕ) → length ns ≤ i → Called r ns T i U → U ≡ calls r (map callOf ns) T
-called-all r ns T i U h c = c .made ∙ ap (λ (l : List ℕ). calls r (map callOf l) T) (take-all i ns h)
+  pub called-all : (i : ℕ) (U : List ℕ) → length ns ≤ i → Called r f ns T i U → U ≡ calls r (map f ns) T
+  called-all i U h c = c .made ∙ ap (λ (l : List ℕ). calls r (map f l) T) (take-all i ns h)
 
 -- ---- demand 3 of the list
 
@@ -69,3 +81,6 @@ list-holds file b T w cs U e = record {
   where
     made : (a : Accepted) → reading file ≡ answered a → U ≡ calls (answered a) cs T
     made a i = e ∙ ap (λ r. calls r cs T) i
+
+pub indexes-refused : (file : List ℕ) → Bytes file → (T : List ℕ) → IndexesRefused file T
+indexes-refused file b T n s I = demand-3 file b .every-index T n s I

@@ -6,6 +6,7 @@ use Rattle.model.specs.Constraints.{Problem}
 use Rattle.model.specs.Tree.{found, none, spent}
 use Rattle.model.specs.Replies.{Reply, refused, answered}
 use Rattle.model.specs.Operations as model
+use Rattle.model.specs.Queue.{Queued}
 use Rattle.model.specs.Compile.{Compiled}
 use Rattle.laws.specs.Lent.{lendable, unlendable}
 use Rattle.cobleskeg.specs.declared.Header.{Header}
@@ -17,6 +18,10 @@ use Rattle.cobleskeg.specs.declared.StepAnswer.{StepAnswer}
 use Rattle.cobleskeg.specs.declared.StepAnswer.the-variants as ofStep
 use Rattle.cobleskeg.specs.declared.SettleAnswer.{SettleAnswer}
 use Rattle.cobleskeg.specs.declared.SettleAnswer.the-variants as ofSettle
+use Rattle.cobleskeg.specs.declared.IndexAnswer.{IndexAnswer}
+use Rattle.cobleskeg.specs.declared.IndexAnswer.the-variants as ofIndex
+use Rattle.cobleskeg.specs.declared.SettleByIndexAnswer.{SettleByIndexAnswer}
+use Rattle.cobleskeg.specs.declared.SettleByIndexAnswer.the-variants as ofSettleByIndex
 use Rattle.cobleskeg.specs.declared.SearchAnswer.{SearchAnswer}
 use Rattle.cobleskeg.specs.declared.SearchAnswer.the-variants as ofSearch
 use Rattle.cobleskeg.specs.declared.CompileAnswer.{CompileAnswer}
@@ -53,6 +58,16 @@ stepReply U (ofStep.Struck n) = answered (record { struck = n; table = U })
 unfoldable pub settleReply : List ℕ → SettleAnswer → Reply model.Settlement
 settleReply U (ofSettle.Refused n) = refused n
 settleReply U (ofSettle.Settled r) = answered (record { rounds = r .count; everyValue = r .«every_value»; table = U })
+
+-- I is the lent index afterwards
+unfoldable pub indexReply : List ℕ → IndexAnswer → Reply (List ℕ)
+indexReply I (ofIndex.Refused n) = refused n
+indexReply I ofIndex.Indexed = answered I
+
+-- U is the lent table afterwards
+unfoldable pub settleByIndexReply : List ℕ → SettleByIndexAnswer → Reply Queued
+settleByIndexReply U (ofSettleByIndex.Refused n) = refused n
+settleByIndexReply U (ofSettleByIndex.Settled r) = answered (record { steps = r .count; everyValue = r .«every_value»; table = U })
 
 -- R and U are the lent room and the answer table afterwards
 unfoldable pub searchReply : List ℕ → List ℕ → SearchAnswer → Reply model.Searched

@@ -1,5 +1,5 @@
--- Demand 3 of what runs (document 01, "How is demand 3 put?"): the claim on the answer of Search, and on the table that a list of calls leaves; and the claim on
--- the bytes that Compile writes. Assumes nothing.
+-- Demand 3 of what runs (document 01, "How is demand 3 put?"): the claim on the answer of Search, and on the table that a list of calls leaves; the claim on the
+-- table that Settle by index leaves; and that on the bytes that Compile writes. Assumes nothing.
 use mathlib.Core.Path.{_≡_}
 use mathlib.Core.Bool.{true, cond}
 use mathlib.Core.List.{List, _∷_, _++_}
@@ -14,7 +14,11 @@ use Rattle.model.specs.Replies.{refused, answered}
 use Rattle.model.specs.Reading.{Accepted, reading}
 use Rattle.model.specs.Operations.{step, Settlement, settle}
 use Rattle.model.specs.Compile.{AcceptsLanguage}
-use Rattle.model.specs.Claim.{Call, stepCall, settleCall, NoStepStrikes, Holds, NoneSolved}
+use Rattle.model.specs.Queue.{settleByIndex}
+use Rattle.model.specs.Claim.{Call, stepCall, settleCall, settleByIndexCall, NoStepStrikes, Holds, NoneSolved}
+use Rattle.cobleskeg.specs.declared.SettleByIndexAnswer.{SettleByIndexAnswer}
+use Rattle.cobleskeg.specs.declared.SettleByIndexAnswer.the-variants.{Settled}
+use Rattle.cobleskeg.specs.declared.Steps.{Steps}
 use Rattle.cobleskeg.specs.declared.SearchAnswer.{SearchAnswer}
 use Rattle.cobleskeg.specs.declared.SearchAnswer.the-variants.{Found, None}
 use Rattle.cobleskeg.specs.declared.CompileAnswer.{CompileAnswer}
@@ -55,6 +59,22 @@ pub record ListHolds (file T U : List ℕ) : Type 0 where
       → (α : Choice) → Solution (a .problem) T α → Holds (a .problem) U α
   -- "a table on which no step strikes is the very table one Settle leaves"
   pub settles : (a : Accepted) → reading file ≡ answered a → (m : Settlement) → settle (reading file) T ≡ answered m → NoStepStrikes a U → U ≡ m .table
+
+-- the call that a number of a list stands for which is lent the index I
+unfoldable pub callByIndex : List ℕ → ℕ → Call
+callByIndex I n = cond (eqb n 4294967294) (settleByIndexCall I) (callOf n)
+
+-- where the file or the table T is refused, so is every call of Settle by index, whatever its index
+abbrev pub IndexesRefused : List ℕ → List ℕ → Type 0
+IndexesRefused file T = (n : ℕ) → settle (reading file) T ≡ refused n → (I : List ℕ) → settleByIndex (reading file) I T ≡ refused n
+
+-- ---- Settle by index
+
+-- Settle by index on this file and the table T answers r and leaves U: "It must end in the table that the rounds end in", and its answer on the values is
+-- that of Settle
+abbrev pub SettlesAlike : List ℕ → List ℕ → SettleByIndexAnswer → List ℕ → Type 0
+SettlesAlike file T r U = (q : Steps) → r ≡ Settled q
+    → (m : Settlement) × (settle (reading file) T ≡ answered m) × (U ≡ m .table) × (q .«every_value» ≡ m .everyValue)
 
 -- ---- Compile
 

@@ -8,10 +8,12 @@ ghost use Rattle.model.specs.Constraints.{Problem};
 ghost use Rattle.model.specs.Replies.{leaves};
 ghost use Rattle.model.specs.Reading.{reading};
 ghost use Rattle.model.specs.Operations.{read, unpack, Stepped, step, Settlement, settle, Searched, search};
+ghost use Rattle.model.specs.StepIndex as model;
+ghost use Rattle.model.specs.Queue.{Queued, settleByIndex};
 ghost use Rattle.model.specs.Claim.{call, calls};
 ghost use Rattle.model.specs.Compile.{Compiled, compile};
-ghost use Rattle.cobleskeg.specs.Answers.{lentNumber, readReply, unpackReply, stepReply, settleReply, searchReply, compileReply};
-ghost use Rattle.cobleskeg.specs.Claims.{callOf, SearchHolds, ListHolds, CompileHolds};
+ghost use Rattle.cobleskeg.specs.Answers.{lentNumber, readReply, unpackReply, stepReply, settleReply, indexReply, settleByIndexReply, searchReply, compileReply};
+ghost use Rattle.cobleskeg.specs.Claims.{callOf, callByIndex, SettlesAlike, SearchHolds, ListHolds, IndexesRefused, CompileHolds};
 
 // The counts of symbols, strings, numbers, automata and constraints.
 pub struct Header {
@@ -50,6 +52,24 @@ pub struct Rounds {
 pub enum SettleAnswer {
     Refused(u8),
     Settled(Rounds),
+}
+
+// What Index answers.
+pub enum IndexAnswer {
+    Refused(u8),
+    Indexed,
+}
+
+// How many steps were run, and whether every variable has a value after them.
+pub struct Steps {
+    pub count: u32,
+    pub every_value: bool,
+}
+
+// What Settle by index answers.
+pub enum SettleByIndexAnswer {
+    Refused(u8),
+    Settled(Steps),
 }
 
 // What Search answers, with the count of the nodes that it visited.
@@ -153,6 +173,52 @@ pub fn settle(file: &[u8], table: &mut [u64]) -> SettleAnswer
     }
 }
 
+// Index: which steps touch each variable of the file, two words for each, or the first of the refusals 1 to 8 and 18.
+pub fn index(file: &[u8], index: &mut [u64]) -> IndexAnswer
+    ensures { λ r. ⌜ indexReply (now (index .exit)) r ≡ model.index (reading (now (file .entry))) (now (index .entry)) ⌝ }
+    ensures { λ r. ⌜ now (index .exit) ≡ leaves (λ I. I) (model.index (reading (now (file .entry))) (now (index .entry))) (now (index .entry)) ⌝ }
+{
+    match format::accept(file) {
+        layout::Layout::Refused(n) => IndexAnswer::Refused(n),
+        layout::Layout::Laid(p) => {
+            if index.len() != 2 * (p.s + p.t) {
+                return IndexAnswer::Refused(18);
+            }
+            index::write(file, p, index);
+            IndexAnswer::Indexed
+        }
+    }
+}
+
+// Settle by index: the table that Settle leaves, by a queue of steps; or the first of the refusals 1 to 10, 18 and 19.
+pub fn settle_by_index(file: &[u8], index: &[u64], table: &mut [u64]) -> SettleByIndexAnswer
+    ensures { λ r. ⌜ settleByIndexReply (now (table .exit)) r
+        ≡ settleByIndex (reading (now (file .entry))) (now (index .entry)) (now (table .entry)) ⌝ }
+    ensures { λ r. ⌜ now (table .exit)
+        ≡ leaves (λ (a : Queued). a .table) (settleByIndex (reading (now (file .entry))) (now (index .entry)) (now (table .entry))) (now (table .entry)) ⌝ }
+    ensures { λ r. ⌜ SettlesAlike (now (file .entry)) (now (table .entry)) r (now (table .exit)) ⌝ }
+{
+    match format::accept(file) {
+        layout::Layout::Refused(n) => SettleByIndexAnswer::Refused(n),
+        layout::Layout::Laid(p) => {
+            let n = unlendable(p, table);
+            if n != 0 {
+                return SettleByIndexAnswer::Refused(n);
+            }
+            if index.len() != 2 * (p.s + p.t) {
+                return SettleByIndexAnswer::Refused(18);
+            }
+            if !index::is_of_file(file, p, index) {
+                return SettleByIndexAnswer::Refused(19);
+            }
+            let count = queue::settle(file, p, index, table);
+            let every_value = rounds::every_value(table, p.s);
+            let r = Steps { count, every_value };
+            SettleByIndexAnswer::Settled(r)
+        }
+    }
+}
+
 // Search: the first solution of the file, within a budget of nodes; or the first of the refusals 1 to 8, 12 and 13.
 pub fn search(file: &[u8], budget: u32, room: &mut [u64], table: &mut [u64]) -> SearchAnswer
     ensures { λ r. ⌜ searchReply (now (room .exit)) (now (table .exit)) r
@@ -203,6 +269,33 @@ pub fn perform(file: &[u8], list: &[u32], table: &mut [u64])
 {
     for i in 0..list.len() {
         call(file, list[i], table);
+    }
+}
+
+// The number of Settle by index in a list of calls that is lent an index; every number but this and that of Settle is that of a Step.
+pub const SETTLE_BY_INDEX: u32 = 4294967294;
+
+// One call of such a list.
+fn call_by_index(file: &[u8], n: u32, index: &[u64], table: &mut [u64])
+    ensures { λ r. ⌜ now (table .exit) ≡ call (reading (now (file .entry))) (callByIndex (now (index .entry)) n) (now (table .entry)) ⌝ }
+{
+    if n == SETTLE_BY_INDEX {
+        settle_by_index(file, index, table);
+    } else {
+        call(file, n, table);
+    }
+}
+
+// A list of Step, Settle and Settle by index calls on one table, all with the one lent index; a refused call leaves the table as it was.
+pub fn perform_by_index(file: &[u8], list: &[u32], index: &[u64], table: &mut [u64])
+    ensures { λ r. ⌜ now (table .exit)
+        ≡ calls (reading (now (file .entry))) (map (callByIndex (now (index .entry))) (now (list .entry))) (now (table .entry)) ⌝ }
+    ensures { λ r. ⌜ ListHolds (now (file .entry)) (now (table .entry)) (now (table .exit)) ⌝ }
+    ensures { λ r. ⌜ IndexesRefused (now (file .entry)) (now (table .entry)) ⌝ }
+{
+    let calls = list.len();
+    for i in 0..calls {
+        call_by_index(file, list[i], index, table);
     }
 }
 

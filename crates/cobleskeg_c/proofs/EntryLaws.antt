@@ -10,6 +10,7 @@ use mir.Val.{boolByte}
 use Rattle.model.specs.Tree.{Outcome, found, none, spent}
 use Rattle.model.specs.Replies.{Reply, answered}
 use Rattle.model.specs.Operations.{Header, Stepped, Settlement, Searched}
+use Rattle.model.specs.Queue.{Queued}
 use Rattle.model.specs.Compile.{Compiled, AcceptsLanguage}
 use Rattle.cobleskeg.specs.declared.Header.{Header as Counts}
 use Rattle.cobleskeg.specs.declared.Rounds.{Rounds}
@@ -21,13 +22,18 @@ use Rattle.cobleskeg.specs.declared.StepAnswer.{StepAnswer}
 use Rattle.cobleskeg.specs.declared.StepAnswer.the-variants as ofStep
 use Rattle.cobleskeg.specs.declared.SettleAnswer.{SettleAnswer}
 use Rattle.cobleskeg.specs.declared.SettleAnswer.the-variants as ofSettle
+use Rattle.cobleskeg.specs.declared.Steps.{Steps}
+use Rattle.cobleskeg.specs.declared.IndexAnswer.{IndexAnswer}
+use Rattle.cobleskeg.specs.declared.IndexAnswer.the-variants as ofIndex
+use Rattle.cobleskeg.specs.declared.SettleByIndexAnswer.{SettleByIndexAnswer}
+use Rattle.cobleskeg.specs.declared.SettleByIndexAnswer.the-variants as ofSettleByIndex
 use Rattle.cobleskeg.specs.declared.SearchAnswer.{SearchAnswer}
 use Rattle.cobleskeg.specs.declared.SearchAnswer.the-variants as ofSearch
 use Rattle.cobleskeg.specs.declared.CompileAnswer.{CompileAnswer}
 use Rattle.cobleskeg.specs.declared.CompileAnswer.the-variants as ofCompile
-use Rattle.cobleskeg.specs.Claims.{SearchHolds, CompileHolds}
-use Rattle.cobleskeg.specs.Answers.{headerOf, readReply, unpackReply, stepReply, settleReply, searchReply, compileReply}
-use Rattle.cobleskeg_c.specs.Numbers.{refusal, writes, bitOf, outcomeNumber, outcomeNodes, searchAnswer}
+use Rattle.cobleskeg.specs.Claims.{SettlesAlike, SearchHolds, CompileHolds}
+use Rattle.cobleskeg.specs.Answers.{headerOf, readReply, unpackReply, stepReply, settleReply, indexReply, settleByIndexReply, searchReply, compileReply}
+use Rattle.cobleskeg_c.specs.Numbers.{refusal, writes, bitOf, SettledAlike, outcomeNumber, outcomeNodes, searchAnswer}
 use Rattle.cobleskeg_c.proofs.ZeroLaws.{Numbered, above-zero}
 use Rattle.cobleskeg_c.proofs.ReturnLaws.{refused-number, refused-stays, answered-number, answered-written}
 
@@ -104,6 +110,56 @@ module _ (U : List ℕ) (a : SettleAnswer) (R : Reply Settlement) (told : settle
   settle-settled s q =
       let e = ap (settleReply U) (sym q) ∙ told in
       (answered-number R _ e, (answered-written R _ e _ rounds, byte-bit _ ∙ answered-written R _ e _ every))
+
+-- ---- Index
+
+module _ (J : List ℕ) (a : IndexAnswer) (R : Reply (List ℕ)) (told : indexReply J a ≡ R) where
+  pub index-refused : (n : ℕ) → a ≡ ofIndex.Refused n → n ≡ refusal R
+  unfolding indexReply
+  index-refused n q = refused-number R n (ap (indexReply J) (sym q) ∙ told)
+
+  pub index-written : a ≡ ofIndex.Indexed → 0 ≡ refusal R
+  unfolding indexReply
+  index-written q = answered-number R J (ap (indexReply J) (sym q) ∙ told)
+
+-- ---- Settle by index
+
+module _ (file T U : List ℕ) (a : SettleByIndexAnswer) (R : Reply Queued) (told : settleByIndexReply U a ≡ R) (claim : SettlesAlike file T a U) (steps every : ℕ) where
+  -- what it returns, the two numbers afterwards, which were `steps` and `every` before, and that the table and the second are what Settle leaves
+  abbrev ByIndexLeaves : ℕ → ℕ → ℕ → Type 0
+  ByIndexLeaves n steps' every' =
+      (n ≡ refusal R)
+      × ((steps' ≡ writes (λ (s : Queued). s .steps) R steps)
+      × ((every' ≡ writes (λ (s : Queued). bitOf (s .everyValue)) R every) × SettledAlike file T n U every'))
+
+  pub by-index-refused : Numbered R → (n : ℕ) → a ≡ ofSettleByIndex.Refused n → ByIndexLeaves n steps every
+  unfolding settleByIndexReply
+  by-index-refused numbered n q =
+      let e = ap (settleByIndexReply U) (sym q) ∙ told in (
+        refused-number R n e,
+        (
+          refused-stays R n e _ steps,
+          (
+            refused-stays R n e _ every,
+            λ z. absurd (true≢false (sym (eq-eqb n 0 z) ∙ above-zero R numbered n (sym e))),
+          ),
+        ),
+      )
+
+  pub by-index-settled : (s : Steps) → a ≡ ofSettleByIndex.Settled s → ByIndexLeaves 0 (s .count) (boolByte (s .«every_value»))
+  unfolding settleByIndexReply
+  by-index-settled s q =
+      let e = ap (settleByIndexReply U) (sym q) ∙ told in
+      let m = claim s q in (
+        answered-number R _ e,
+        (
+          answered-written R _ e _ steps,
+          (
+            byte-bit _ ∙ answered-written R _ e _ every,
+            λ z. (m .0, m .1, m .2, byte-bit (s .«every_value») ∙ ap bitOf (m .3)),
+          ),
+        ),
+      )
 
 -- ---- Search
 

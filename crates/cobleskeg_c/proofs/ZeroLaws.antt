@@ -9,6 +9,8 @@ use Rattle.model.specs.Replies.{Reply, refused, answered, require, obtain, andT
 use Rattle.model.specs.Layout.{layout}
 use Rattle.model.specs.Reading.{Reading, problemOf, reading}
 use Rattle.model.specs.Operations.{read, requireLength, unpack, onTable, step, settle, search}
+use Rattle.model.specs.StepIndex.{requireIndexLength, index}
+use Rattle.model.specs.Queue.{settleByIndex}
 use Rattle.model.specs.Pattern.{Pattern}
 use Rattle.model.specs.PatternText.{Parsed, bad, parsed}
 use Rattle.model.specs.Compile.{whenParsed, compiledBytes, compile}
@@ -73,6 +75,16 @@ module _ (r : Reading) (known : Numbered r) (T : List ℕ) where
   pub settle-numbered : Numbered (settle r T)
   unfolding settle onTable requireLength
   settle-numbered = then-numbered r _ known (λ a. require-numbered _ 9 _ tt (require-numbered _ 10 _ tt by-answer))
+
+  pub index-numbered : Numbered (index r T)
+  unfolding index requireIndexLength
+  index-numbered = then-numbered r _ known (λ a. require-numbered _ 18 _ tt by-answer)
+
+  pub settle-by-index-numbered : (I : List ℕ) → Numbered (settleByIndex r I T)
+  unfolding settleByIndex onTable requireLength requireIndexLength
+  settle-by-index-numbered I =
+      then-numbered r _ known
+      (λ a. require-numbered _ 9 _ tt (require-numbered _ 10 _ tt (require-numbered _ 18 _ tt (require-numbered _ 19 _ tt by-answer))))
 
   pub search-numbered : (budget : ℕ) (room : List ℕ) → Numbered (search r budget room T)
   unfolding search

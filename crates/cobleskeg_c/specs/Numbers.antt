@@ -1,9 +1,13 @@
 -- The numbers that stand for answers in the C interface. Assumes nothing.
+use mathlib.Core.Path.{_≡_}
 use mathlib.Core.Bool.{Bool, cond}
+use mathlib.Core.List.{List}
 use Prim.Native.Nat.{ℕ}
 use lib.Dec.{eqb}
 use Rattle.model.specs.Tree.{Outcome, found, none, spent}
 use Rattle.model.specs.Replies.{Reply, refused, answered}
+use Rattle.model.specs.Reading.{reading}
+use Rattle.model.specs.Operations.{Settlement, settle}
 use Rattle.cobleskeg.specs.declared.SearchAnswer.{SearchAnswer}
 use Rattle.cobleskeg.specs.declared.SearchAnswer.the-variants.{Refused, Found, None, Spent}
 
@@ -19,6 +23,10 @@ writes f (answered a) old = f a
 
 unfoldable pub bitOf : Bool → ℕ
 bitOf b = cond b 1 0
+
+-- Settle by index on this file and the table T returns r and leaves U, and v behind its reference: where it is accepted both are what Settle leaves
+abbrev pub SettledAlike : List ℕ → List ℕ → ℕ → List ℕ → ℕ → Type 0
+SettledAlike file T r U v = r ≡ 0 → (m : Settlement) × (settle (reading file) T ≡ answered m) × (U ≡ m .table) × (v ≡ bitOf (m .everyValue))
 
 unfoldable pub outcomeNumber : Outcome → ℕ
 outcomeNumber (found n) = 1

@@ -3,9 +3,11 @@
 //
 // Assumes nothing.
 use cobleskeg::CompileAnswer;
+use cobleskeg::IndexAnswer;
 use cobleskeg::ReadAnswer;
 use cobleskeg::SearchAnswer;
 use cobleskeg::SettleAnswer;
+use cobleskeg::SettleByIndexAnswer;
 use cobleskeg::StepAnswer;
 use cobleskeg::UnpackAnswer;
 ghost use mathlib.Core.Path.{_≡_};
@@ -14,10 +16,12 @@ ghost use lib.ListN.{take};
 ghost use Rattle.model.specs.Replies.{leaves};
 ghost use Rattle.model.specs.Reading.{reading};
 ghost use Rattle.model.specs.Operations.{Header, read, unpack, Stepped, step, Settlement, settle, Searched, search};
+ghost use Rattle.model.specs.StepIndex as model;
+ghost use Rattle.model.specs.Queue.{Queued, settleByIndex};
 ghost use Rattle.model.specs.Claim.{calls};
 ghost use Rattle.model.specs.Compile.{Compiled, compile, AcceptsLanguage};
-ghost use Rattle.cobleskeg.specs.Claims.{callOf, SearchHolds, ListHolds};
-ghost use Rattle.cobleskeg_c.specs.Numbers.{refusal, writes, bitOf, outcomeNumber, outcomeNodes, searchAnswer};
+ghost use Rattle.cobleskeg.specs.Claims.{callOf, callByIndex, SearchHolds, ListHolds, IndexesRefused};
+ghost use Rattle.cobleskeg_c.specs.Numbers.{refusal, writes, bitOf, SettledAlike, outcomeNumber, outcomeNodes, searchAnswer};
 ghost use Rattle.cobleskeg_c.specs.Version.{version};
 
 // The version of what is linked.
@@ -116,6 +120,47 @@ pub extern "C" fn cobleskeg_settle(
     }
 }
 
+// Index, into the lent words.
+#[no_mangle]
+pub extern "C" fn cobleskeg_index(file: &[u8], index: &mut [u64]) -> u8
+    ensures { λ r. ⌜ r ≡ refusal (model.index (reading (now (file .entry))) (now (index .entry))) ⌝ }
+    ensures { λ r. ⌜ now (index .exit) ≡ leaves (λ I. I) (model.index (reading (now (file .entry))) (now (index .entry))) (now (index .entry)) ⌝ }
+{
+    match cobleskeg::index(file, index) {
+        IndexAnswer::Refused(n) => n,
+        IndexAnswer::Indexed => 0,
+    }
+}
+
+// Settle by index, the steps that it ran, and 1 where every variable has a value after them, else 0.
+#[no_mangle]
+pub extern "C" fn cobleskeg_settle_by_index(
+    file: &[u8],
+    index: &[u64],
+    table: &mut [u64],
+    steps: &mut u32,
+    every_value: &mut u8,
+) -> u8
+    ensures { λ r. ⌜ r ≡ refusal (settleByIndex (reading (now (file .entry))) (now (index .entry)) (now (table .entry))) ⌝ }
+    ensures { λ r. ⌜ now (table .exit)
+        ≡ leaves (λ (a : Queued). a .table) (settleByIndex (reading (now (file .entry))) (now (index .entry)) (now (table .entry))) (now (table .entry)) ⌝ }
+    ensures { λ r. ⌜ now (steps .exit)
+        ≡ writes (λ (a : Queued). a .steps) (settleByIndex (reading (now (file .entry))) (now (index .entry)) (now (table .entry))) (now (steps .entry)) ⌝ }
+    ensures { λ r. ⌜ now («every_value» .exit)
+        ≡ writes (λ (a : Queued). bitOf (a .everyValue)) (settleByIndex (reading (now (file .entry))) (now (index .entry)) (now (table .entry)))
+        (now («every_value» .entry)) ⌝ }
+    ensures { λ r. ⌜ SettledAlike (now (file .entry)) (now (table .entry)) r (now (table .exit)) (now («every_value» .exit)) ⌝ }
+{
+    match cobleskeg::settle_by_index(file, index, table) {
+        SettleByIndexAnswer::Refused(n) => n,
+        SettleByIndexAnswer::Settled(q) => {
+            *steps = q.count;
+            *every_value = q.every_value as u8;
+            0
+        }
+    }
+}
+
 // The outcomes of a search.
 const FOUND: u8 = 1;
 
@@ -174,6 +219,22 @@ pub extern "C" fn cobleskeg_perform(file: &[u8], list: &[u32], table: &mut [u64]
     ensures { λ r. ⌜ ListHolds (now (file .entry)) (now (table .entry)) (now (table .exit)) ⌝ }
 {
     cobleskeg::perform(file, list, table);
+}
+
+// A list of Step, Settle and Settle by index calls on one table, with one index.
+#[no_mangle]
+pub extern "C" fn cobleskeg_perform_by_index(
+    file: &[u8],
+    list: &[u32],
+    index: &[u64],
+    table: &mut [u64],
+)
+    ensures { λ r. ⌜ now (table .exit)
+        ≡ calls (reading (now (file .entry))) (map (callByIndex (now (index .entry))) (now (list .entry))) (now (table .entry)) ⌝ }
+    ensures { λ r. ⌜ ListHolds (now (file .entry)) (now (table .entry)) (now (table .exit)) ⌝ }
+    ensures { λ r. ⌜ IndexesRefused (now (file .entry)) (now (table .entry)) ⌝ }
+{
+    cobleskeg::perform_by_index(file, list, index, table);
 }
 
 // Compile, and how many bytes it wrote.

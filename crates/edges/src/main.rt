@@ -1,11 +1,11 @@
 // Runs the entries on the cases of standard input and prints what they answer and leave: tests/edges.py lists the cases and what the paper says of each.
 //
-// Standard input holds one case after another. A case is 18 bytes of numbers, the words of the lent table that differ from the fill (2 bytes of place and 8 of
-// word), the calls of a list (4 bytes each) and the file:
+// Standard input holds one case after another. A case is 18 bytes of numbers, the lent words that differ from the fill (2 bytes of place and 8 of word; the
+// places of the room's words follow those of the longest table, 2048 words), the calls of a list (4 bytes each) and the file:
 //
-//     at 0    the operation: 0 Read and Unpack, 1 Step, 2 Settle, 3 Search, 4 a list of calls, 5 Compile
+//     at 0    the operation: 0 Read and Unpack, 1 Step, 2 Settle, 3 Search, 4 a list of calls, 5 Compile, 6 Index, 7 Settle by index, 8 a list with an index
 //     at 2    how many words of a table are lent
-//     at 4    how many words of room are lent, or bytes of a buffer
+//     at 4    how many words of room are lent, or of an index, or bytes of a buffer
 //     at 6    the fill: what every lent word holds before the call
 //     at 8    the number of a step, the budget, or the number of symbols (4 bytes)
 //     at 12   how many words differ from the fill
@@ -126,6 +126,14 @@ fn print_step(file: &[u8], j: usize, table: &mut [u64]) {
     print_left(table);
 }
 
+fn print_flag(every_value: bool) {
+    if every_value {
+        print(b" true");
+    } else {
+        print(b" false");
+    }
+}
+
 fn print_settle(file: &[u8], table: &mut [u64]) {
     print(b"settle");
     match cobleskeg::settle(file, table) {
@@ -133,11 +141,29 @@ fn print_settle(file: &[u8], table: &mut [u64]) {
         cobleskeg::SettleAnswer::Settled(r) => {
             print(b" rounds");
             print_number(r.count as u64);
-            if r.every_value {
-                print(b" true");
-            } else {
-                print(b" false");
-            }
+            print_flag(r.every_value);
+        }
+    }
+    print_left(table);
+}
+
+fn print_index(file: &[u8], index: &mut [u64]) {
+    print(b"index");
+    match cobleskeg::index(file, index) {
+        cobleskeg::IndexAnswer::Refused(n) => print_refused(n),
+        cobleskeg::IndexAnswer::Indexed => print(b" done"),
+    }
+    print_left(index);
+}
+
+fn print_settle_by_index(file: &[u8], index: &[u64], table: &mut [u64]) {
+    print(b"settle by index");
+    match cobleskeg::settle_by_index(file, index, table) {
+        cobleskeg::SettleByIndexAnswer::Refused(n) => print_refused(n),
+        cobleskeg::SettleByIndexAnswer::Settled(r) => {
+            print(b" steps");
+            print_number(r.count as u64);
+            print_flag(r.every_value);
         }
     }
     print_left(table);
@@ -185,6 +211,14 @@ fn print_perform(file: &[u8], calls: &[u8], table: &mut [u64]) {
     let n = take_calls(calls, &mut list);
     cobleskeg::perform(file, &list[..n], table);
     print(b"perform");
+    print_left(table);
+}
+
+fn print_perform_by_index(file: &[u8], calls: &[u8], index: &[u64], table: &mut [u64]) {
+    let mut list = [0u32; 8];
+    let n = take_calls(calls, &mut list);
+    cobleskeg::perform_by_index(file, &list[..n], index, table);
+    print(b"perform by index");
     print_left(table);
 }
 
@@ -254,23 +288,29 @@ fn report(
         2 => print_settle(file, table),
         3 => print_search(file, argument, room, table),
         4 => print_perform(file, calls, table),
-        _ => print_compile(file, argument as usize, room),
+        5 => print_compile(file, argument as usize, room),
+        6 => print_index(file, room),
+        7 => print_settle_by_index(file, room, table),
+        _ => print_perform_by_index(file, calls, room, table),
     }
 }
 
-// Writes a word; a place outside the table is passed over.
-fn put(table: &mut [u64], place: usize, word: u64) {
-    if place < table.len() {
-        table[place] = word;
+// Writes a word of a buffer whose places begin at `first`; a place outside the buffer is passed over.
+fn put(words: &mut [u64], first: usize, place: usize, word: u64) {
+    if place >= first {
+        let i = place - first;
+        if i < words.len() {
+            words[i] = word;
+        }
     }
 }
 
-// Writes the words that differ from the fill.
-fn change(table: &mut [u64], changes: &[u8]) {
+// Writes the words of the buffer that differ from the fill.
+fn change(words: &mut [u64], first: usize, changes: &[u8]) {
     let mut at: usize = 0;
     while at + 10 <= changes.len() {
         let place = little::two(changes, at) as usize;
-        put(table, place, little::eight(changes, at + 2));
+        put(words, first, place, little::eight(changes, at + 2));
         at += 10;
     }
 }
@@ -296,7 +336,8 @@ fn run(c: Case, changes: &[u8], calls: &[u8], file: &[u8]) {
     let fill = c.fill;
     let mut table = [fill; 2048];
     let mut room = [fill; 4096];
-    change(&mut table, changes);
+    change(&mut table, 0, changes);
+    change(&mut room, 2048, changes);
     if c.lent <= 2048 {
         if c.room <= 4096 {
             lend(c, calls, file, &mut room, &mut table);
@@ -342,7 +383,7 @@ fn run_all(input: &[u8]) {
 }
 
 fn main() {
-    let mut input = [0u8; 262144];
+    let mut input = [0u8; 524288];
     let n = io::read_full(STDIN_FILENO, &mut input);
     run_all(&input[..n]);
 }

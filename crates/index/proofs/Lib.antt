@@ -3,3 +3,5 @@ pub mod JoiningLaws
 pub mod KindLaws
 pub mod WakingLaws
 pub mod NotingLaws
+pub mod LentLaws
+pub mod StandingLaws

@@ -2,3 +2,4 @@
 pub mod Index
 pub mod Joining
 pub mod Waking
+pub mod Standing

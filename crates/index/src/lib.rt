@@ -1,19 +1,26 @@
-// Which constraints of a file name a variable: a word for each variable, strings then numbers, in which bit j stands for constraint j.
+// Which constraints of a file name a variable: a word for each variable, strings then numbers, in which bit j stands for constraint j. And the index that a
+// caller lends: two words for each variable, in which bit j of the pair stands for step j, so that the trimmings, whose numbers follow the constraints', have
+// bits too.
 //
 // Assumes nothing. `requires` asks what refusals 1 to 8 leave, and sizes.
 ghost use mathlib.Core.Path.{_≡_};
+ghost use mathlib.Core.Bool.{cond};
 ghost use mathlib.Core.List.{[], _∷_, map};
 ghost use Prim.Native.Nat.{_+_, _*_, _<_, _≤_};
 ghost use lib.Bits.{bitOr};
+ghost use lib.Dec.{eqb, ltb};
 ghost use lib.ListN.{length};
+ghost use Rattle.model.specs.Lists.{same};
 ghost use Rattle.model.specs.Words.{word, union};
 ghost use Rattle.model.specs.Domains.{owner};
-ghost use Rattle.model.specs.Constraints.{variables};
+ghost use Rattle.model.specs.Constraints.{Problem, variables};
+ghost use Rattle.model.specs.StepIndex.{wordFrom, indexOf};
 ghost use Rattle.records.specs.Records.{constraintOf};
 ghost use Rattle.format.specs.Accepting.{problemIn, Usable};
 ghost use Rattle.index.specs.Index.{position, Index};
 ghost use Rattle.index.specs.Joining.{positions, Fits, Joined};
 ghost use Rattle.index.specs.Waking.{moved, ifChanged};
+ghost use Rattle.index.specs.Standing.{listed, Standing, Lent};
 
 // The index with the bits of b joined into word i.
 fn with(ix: [u64; 32], i: usize, b: u64) -> [u64; 32]
@@ -130,4 +137,120 @@ pub fn waking(ix: &[u64], s: usize, r: records::Record, n: inplace::Change) -> u
         records::Record::Len(x, m) => two(ix, x as usize, s + m as usize, n),
         records::Record::Regular(x, _) => if_changed(ix, x as usize, n.x),
     }
+}
+
+// ---- the lent index
+
+// Where some variables stand: the first `count` of `at`.
+pub struct Positions {
+    pub at: [usize; 3],
+    pub count: usize,
+}
+
+// The first so many of these.
+fn first(at: [usize; 3], count: usize) -> Positions
+    ensures { λ m. ⌜ (m .at ≡ at) × (m .count ≡ count) ⌝ }
+{
+    Positions { at, count }
+}
+
+// Where the variables that r names stand.
+pub fn positions_of(r: records::Record, s: usize) -> Positions
+    requires { ⌜ s ≤ 16 ⌝ }
+    ensures { λ m. ⌜ Standing s r m ⌝ }
+{
+    match r {
+        records::Record::Eq(x, y) => first([x as usize, y as usize, 0], 2),
+        records::Record::Neq(x, y) => first([x as usize, y as usize, 0], 2),
+        records::Record::Rev(x, y) => first([x as usize, y as usize, 0], 2),
+        records::Record::Cat(x, y, z) => first([x as usize, y as usize, z as usize], 3),
+        records::Record::Sub(x, y, n) => first([x as usize, y as usize, s + n as usize], 3),
+        records::Record::Len(x, n) => first([x as usize, s + n as usize, 0], 2),
+        records::Record::Regular(x, _) => first([x as usize, 0, 0], 1),
+    }
+}
+
+// Half h, low or high, of the steps that touch one of these variables.
+pub fn joined_words(index: &[u64], m: Positions, h: usize) -> u64
+    requires { ⌜ (h < 2) × Lent m (length (now index)) ⌝ }
+    ensures { λ w. ⌜ w ≡ union (map (λ i. word (now (index .entry)) (2 * i + h)) (listed m)) ⌝ }
+{
+    let at = m.at;
+    let mut w: u64 = 0;
+    for j in 0..m.count {
+        w = w | index[2 * at[j] + h];
+    }
+    w
+}
+
+// Half h of the constraints that name variable v. There are at most 64, so the high half has none.
+fn constraints_half(ix: &[u64; 32], v: usize, h: usize) -> u64
+    requires { ⌜ v < 32 ⌝ }
+    ensures { λ w. ⌜ w ≡ cond (eqb h 0) (word (now (ix .entry)) v) 0 ⌝ }
+{
+    if h == 0 {
+        return ix[v];
+    }
+    0
+}
+
+// Half h of step j alone.
+fn step_half(j: usize, h: usize) -> u64
+    ensures { λ w. ⌜ w ≡ wordFrom (64 * h) (j ∷ []) ⌝ }
+{
+    if j / 64 == h {
+        return words::singleton(j % 64);
+    }
+    0
+}
+
+// Half h of the trimming of variable v: the trimmings follow the constraints, and numbers, which follow the strings, have none.
+fn trimming_half(p: layout::Parts, v: usize, h: usize) -> u64
+    requires { ⌜ (p .s ≤ 16) × (p .c ≤ 64) ⌝ }
+    ensures { λ w. ⌜ w ≡ cond (ltb v (p .s)) (wordFrom (64 * h) ((p .c + v) ∷ [])) 0 ⌝ }
+{
+    if v < p.s {
+        return step_half(p.c + v, h);
+    }
+    0
+}
+
+// Word i of the lent index: half i % 2 of the pair of variable i / 2.
+fn lent_word(ix: &[u64; 32], p: layout::Parts, i: usize) -> u64
+    requires { ⌜ (p .s ≤ 16) × (p .t ≤ 16) × (p .c ≤ 64) × (i < 2 * (p .s + p .t)) ⌝ }
+    ensures { λ w. ⌜ ((P : Problem) → P .strings ≡ p .s → P .numbers ≡ p .t → length (P .constraints) ≡ p .c → Index P (now (ix .entry))
+        → w ≡ word (indexOf P) i) ⌝ }
+{
+    constraints_half(ix, i / 2, i % 2) | trimming_half(p, i / 2, i % 2)
+}
+
+// The index of a file, word by word, into the lent one.
+pub fn write(file: &[u8], p: layout::Parts, index: &mut [u64])
+    requires { ⌜ Usable (now file) p × (length (now index) ≡ 2 * (p .s + p .t)) ⌝ }
+    ensures { λ r. ⌜ now (index .exit) ≡ indexOf (problemIn (now (file .entry)) p) ⌝ }
+{
+    let ix = of_file(file, p);
+    let n = index.len();
+    let mut i: usize = 0;
+    while i < n {
+        index[i] = lent_word(&ix, p, i);
+        i += 1;
+    }
+}
+
+// Whether the lent words are the index of the file: the first that differs decides.
+pub fn is_of_file(file: &[u8], p: layout::Parts, index: &[u64]) -> bool
+    requires { ⌜ Usable (now file) p × (length (now index) ≡ 2 * (p .s + p .t)) ⌝ }
+    ensures { λ r. ⌜ r ≡ same (now (index .entry)) (indexOf (problemIn (now (file .entry)) p)) ⌝ }
+{
+    let ix = of_file(file, p);
+    let n = index.len();
+    let mut i: usize = 0;
+    while i < n {
+        if index[i] != lent_word(&ix, p, i) {
+            return false;
+        }
+        i += 1;
+    }
+    true
 }

@@ -123,7 +123,7 @@ bits-ones w h = select-ones 64 w h
 
 -- ---- without its lowest bit a word has the other bits, in their order
 
-select-same : (p q : ℕ → Bool) (xs : List ℕ) → ((x : ℕ) → In x xs → p x ≡ q x) → select p xs ≡ select q xs
+pub select-same : (p q : ℕ → Bool) (xs : List ℕ) → ((x : ℕ) → In x xs → p x ≡ q x) → select p xs ≡ select q xs
 unfolding select
 select-same p q [] h = refl
 select-same p q (x ∷ xs) h = ap₂ (λ (t : Bool) (l : List ℕ). cond t (x ∷ l) l) (h x (List·Memᴰ·head refl)) (select-same p q xs (λ y m. h y (List·Memᴰ·tail m)))

@@ -1,65 +1,31 @@
--- Laws of lists of Step and Settle calls: each call, refused or not, stays between the table it is given and any stable table below it. Assumes nothing.
-use mathlib.Core.Path.{_≡_, refl, sym, ap, _∙_}
-use mathlib.Core.Logic.{⊎-elim}
+-- Laws of lists of Step and Settle calls, the second settle among them: each call, refused or not, stays between the table it is given and any stable table below it. Assumes nothing.
+use mathlib.Core.Path.{_≡_, refl, sym, ap, subst, _∙_}
 use mathlib.Core.Bool.{Bool, true, false, cond, _&&_, false≢true}
-use mathlib.Core.List.{List, [], _∷_, _++_, map, List·Memᴰ·append-cases, Memᴰ·append-left, Memᴰ·append-right, Memᴰ·map, Memᴰ·of-map}
-use Prim.Native.Nat.{ℕ, _+_, _-_, _*_, _<_}
-use native.Mathlib.Omega.{arith}
+use mathlib.Core.List.{List, [], _∷_}
+use Prim.Native.Nat.{ℕ, _+_, _*_, _<_}
 use lib.Dec.{eqb, ltb}
-use lib.ListN.{length, getD}
-use borrow.Author.Tests.{ltb-true, ltb-false, lt-ltb, le-ltb, eqb-true, eq-eqb}
-use Rattle.model.specs.Lists.{from, upto}
+use lib.ListN.{length}
+use borrow.Author.Tests.{ltb-true, lt-ltb, eqb-true, eq-eqb}
+use Rattle.model.specs.Lists.{from, upto, same}
 use Rattle.model.specs.Words.{noneFrom, word, Words}
-use Rattle.model.specs.Constraints.{Problem, Constraint, always, width}
+use Rattle.model.specs.Constraints.{Problem, Constraint, width}
 use Rattle.model.specs.Support.{narrowed, struck}
-use Rattle.model.specs.Rounds.{everyValue, steps, settling, settled}
+use Rattle.model.specs.Rounds.{everyValue, settling, settled}
 use Rattle.model.specs.Replies.{Reply, refused, answered, require, andThen, leaves}
 use Rattle.model.specs.Reading.{Accepted, symbolsBelow}
 use Rattle.model.specs.Operations.{requireLength, onTable, stepAt, stepCount, Stepped, step, Settlement, settle}
-use Rattle.model.specs.Claim.{Call, stepCall, settleCall, call, calls, NoStepStrikes}
+use Rattle.model.specs.StepIndex.{indexOf, requireIndexLength}
+use Rattle.model.specs.Queue.{queueing, Queued, settleByIndex}
+use Rattle.model.specs.Claim.{Call, stepCall, settleCall, settleByIndexCall, call, calls, NoStepStrikes}
 use Rattle.laws.specs.Inclusion.{In, Below}
 use Rattle.laws.specs.Lent.{lendable, unlendable, Stable}
-use Rattle.laws.proofs.ListLaws.{of-all, in-all, of-upto, in-upto, getD-in, in-getD, and-true, true-and}
+use Rattle.laws.proofs.ListLaws.{of-all, in-all, and-true, true-and}
 use Rattle.laws.proofs.WordLaws.{noneFrom-within}
 use Rattle.laws.proofs.TableLaws.{below-refl, below-trans, below-antisym, below-of-eq}
 use Rattle.laws.proofs.SupportLaws.{narrowed-below, narrowed-mono}
 use Rattle.laws.proofs.RoundLaws.{settled-below, settled-above, settled-stable}
-
--- ---- the steps, by their numbers
-
-module _ (P : Problem) where
-  pub step-in : (j : ℕ) → j < stepCount P → In (stepAt P j) (steps P)
-  unfolding stepAt steps
-  step-in j h = go (ltb j (length (P .constraints))) refl
-    where
-      go : (b : Bool) → ltb j (length (P .constraints)) ≡ b
-          → In (cond b (getD (P .constraints) j (always 0)) (always (j - length (P .constraints)))) (map always (upto (P .strings)) ++ P .constraints)
-      go true e = Memᴰ·append-right (map always (upto (P .strings))) (getD-in (P .constraints) j (always 0) (ltb-true j (length (P .constraints)) e))
-      go false e =
-          let k = ltb-false j (length (P .constraints)) e in
-          Memᴰ·append-left (P .constraints) (Memᴰ·map always (in-upto (P .strings) (j - length (P .constraints)) (omega arith)))
-
-  pub in-step : (c : Constraint) → In c (steps P) → (j : ℕ) × (j < stepCount P) × (stepAt P j ≡ c)
-  unfolding stepAt steps
-  in-step c m = ⊎-elim left right (List·Memᴰ·append-cases (map always (upto (P .strings))) m)
-    where
-      n : ℕ
-      n = length (P .constraints)
-
-      left : In c (map always (upto (P .strings))) → (j : ℕ) × (j < stepCount P) × (cond (ltb j n) (getD (P .constraints) j (always 0)) (always (j - n)) ≡ c)
-      left k =
-          let t = Memᴰ·of-map always (upto (P .strings)) k in
-          let b = of-upto (P .strings) (t .1) in
-          let e : ltb (n + t .0) n ≡ false = le-ltb (n + t .0) n (omega arith) in
-          let d : n + t .0 - n ≡ t .0 = omega arith in
-          (n + t .0, omega arith, rw (e, d) (t .2))
-
-      right : In c (P .constraints) → (j : ℕ) × (j < stepCount P) × (cond (ltb j n) (getD (P .constraints) j (always 0)) (always (j - n)) ≡ c)
-      right k =
-          let t = in-getD (P .constraints) (always 0) k in
-          let b = t .1 in
-          let e : ltb (t .0) n ≡ true = lt-ltb (t .0) n b in
-          (t .0, omega arith, rw e (t .2))
+use Rattle.laws.proofs.StepNumberLaws.{step-in, in-step}
+use Rattle.laws.proofs.QueueLaws.{queueing-below, queueing-above}
 
 -- ---- a lent table: neither refusal 9 nor refusal 10
 
@@ -95,11 +61,12 @@ on-other {A} a T f = go (eqb (length T) (width (a .problem))) (symbolsBelow (a .
 
 -- ---- one call
 
--- U is what a call leaves of T: the table as it was, a narrowed one, or the settled one
+-- U is what a call leaves of T: the table as it was, a narrowed one, the settled one, or the one that the queue leaves
 pub data After (P : Problem) (T : List ℕ) : List ℕ → Type 0 where
   untouched : {U : List ℕ} → U ≡ T → After P T U
   by-step : {U : List ℕ} (j : ℕ) → j < stepCount P → U ≡ narrowed P (stepAt P j) T → After P T U
   by-settle : {U : List ℕ} → U ≡ settled P T → After P T U
+  by-queue : {U : List ℕ} → U ≡ queueing P T .table → After P T U
 
 module _ (a : Accepted) where
   pub step-lendable : (T : List ℕ) (j : ℕ) → lendable (a .problem) T ≡ true → j < stepCount (a .problem)
@@ -124,9 +91,25 @@ module _ (a : Accepted) where
   unfolding settle
   settle-other T e = on-other a T _ e
 
+  -- the second settle, and each of its refusals
+  pub settle-by-index-other : (I T : List ℕ) → lendable (a .problem) T ≡ false → settleByIndex (answered a) I T ≡ refused (unlendable (a .problem) T)
+  unfolding settleByIndex
+  settle-by-index-other I T e = on-other a T _ e
+
+  -- what it answers where neither 18 nor 19 refuses
+  abbrev pub queued : List ℕ → Queued
+  queued T =
+      record { steps = queueing (a .problem) T .steps; everyValue = everyValue (a .problem) (queueing (a .problem) T .table); table = queueing (a .problem) T .table }
+
+  pub settle-by-index-lendable : (I T : List ℕ) → lendable (a .problem) T ≡ true
+      → settleByIndex (answered a) I T
+      ≡ require (eqb (length I) (2 * (a .problem .strings + a .problem .numbers))) 18 (require (same I (indexOf (a .problem))) 19 (answered (queued T)))
+  unfolding settleByIndex requireIndexLength
+  settle-by-index-lendable I T e = on-lendable a T _ e
+
   -- what a call leaves of T
   pub call-after : (c : Call) (T : List ℕ) → After (a .problem) T (call (answered a) c T)
-  unfolding call leaves
+  unfolding call leaves require
   call-after (stepCall j) T = go (lendable (a .problem) T) (ltb j (stepCount (a .problem))) refl refl
     where
       tableIn : Reply Stepped → List ℕ
@@ -145,6 +128,20 @@ module _ (a : Accepted) where
       go : (p : Bool) → lendable (a .problem) T ≡ p → After (a .problem) T (tableIn (settle (answered a) T))
       go true e = by-settle (ap tableIn (settle-lendable T e))
       go false e = untouched (ap tableIn (settle-other T e))
+  call-after (settleByIndexCall I) T = go (lendable (a .problem) T) refl
+    where
+      tableIn : Reply Queued → List ℕ
+      tableIn r = leaves (λ (z : Queued). z .table) r T
+
+      within : (p q : Bool) → After (a .problem) T (tableIn (require p 18 (require q 19 (answered (queued T)))))
+      within true true = by-queue refl
+      within true false = untouched refl
+      within false q = untouched refl
+
+      go : (p : Bool) → lendable (a .problem) T ≡ p → After (a .problem) T (tableIn (settleByIndex (answered a) I T))
+      go true e = subst (λ (r : Reply Queued). After (a .problem) T (tableIn r)) (sym (settle-by-index-lendable I T e))
+          (within (eqb (length I) (2 * (a .problem .strings + a .problem .numbers))) (same I (indexOf (a .problem))))
+      go false e = untouched (ap tableIn (settle-by-index-other I T e))
 
   -- ---- a list of calls stays between the start and every stable table below it
 
@@ -155,6 +152,7 @@ module _ (a : Accepted) where
       go (untouched e) = below-of-eq e
       go (by-step j h e) = below-trans (below-of-eq e) (narrowed-below (a .problem) (stepAt (a .problem) j) T)
       go (by-settle e) = below-trans (below-of-eq e) (settled-below (a .problem) T)
+      go (by-queue e) = below-trans (below-of-eq e) (queueing-below (a .problem) T)
 
   pub call-above : (c : Call) (W T : List ℕ) → Stable (a .problem) W → Below W T → Below W (call (answered a) c T)
   call-above c W T s p = go (call-after c T)
@@ -165,6 +163,7 @@ module _ (a : Accepted) where
           let d : Constraint = stepAt (a .problem) j in
           below-trans (below-of-eq (sym (s d (step-in (a .problem) j h)))) (below-trans (narrowed-mono (a .problem) d p) (below-of-eq (sym e)))
       go (by-settle e) = below-trans (settled-above (a .problem) W T s p) (below-of-eq (sym e))
+      go (by-queue e) = below-trans (queueing-above (a .problem) W T s p) (below-of-eq (sym e))
 
   pub calls-below : (cs : List Call) (T : List ℕ) → Below (calls (answered a) cs T) T
   unfolding calls
@@ -198,10 +197,13 @@ module _ (a : Accepted) where
   calls-other [] T e = refl
   calls-other (stepCall j ∷ cs) T e = ap (calls (answered a) cs) (ap (λ (r : Reply Stepped). leaves (λ (z : Stepped). z .table) r T) (step-other T j e)) ∙ calls-other cs T e
   calls-other (settleCall ∷ cs) T e = ap (calls (answered a) cs) (ap (λ (r : Reply Settlement). leaves (λ (z : Settlement). z .table) r T) (settle-other T e)) ∙ calls-other cs T e
+  calls-other (settleByIndexCall I ∷ cs) T e =
+      ap (calls (answered a) cs) (ap (λ (r : Reply Queued). leaves (λ (z : Queued). z .table) r T) (settle-by-index-other I T e)) ∙ calls-other cs T e
 
 -- a file that is refused leaves every table as it is
 pub calls-refused : (n : ℕ) (cs : List Call) (T : List ℕ) → calls (refused n) cs T ≡ T
-unfolding calls call step settle onTable andThen leaves
+unfolding calls call step settle settleByIndex onTable andThen leaves
 calls-refused n [] T = refl
 calls-refused n (stepCall j ∷ cs) T = calls-refused n cs T
 calls-refused n (settleCall ∷ cs) T = calls-refused n cs T
+calls-refused n (settleByIndexCall I ∷ cs) T = calls-refused n cs T

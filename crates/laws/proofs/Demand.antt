@@ -11,11 +11,12 @@ use Rattle.model.specs.Replies.{Reply, refused, answered, andThen}
 use Rattle.model.specs.Layout.{Bytes}
 use Rattle.model.specs.Reading.{Accepted, Reading, reading}
 use Rattle.model.specs.Operations.{onTable, step, Settlement, settle, Searched, search}
+use Rattle.model.specs.Queue.{settleByIndex}
 use Rattle.model.specs.Claim.{Call, ListClaim, SearchClaim, Demand}
 use Rattle.laws.specs.Lent.{lendable}
 use Rattle.laws.proofs.SolutionLaws.{tableOf-word, own-below, own-stable}
 use Rattle.laws.proofs.BudgetLaws.{search-first, search-empty, search-near, search-whole, search-nothing}
-use Rattle.laws.proofs.CallLaws.{lendable-length, settle-lendable, settle-other, step-other, calls-above, calls-settle, calls-other, calls-refused}
+use Rattle.laws.proofs.CallLaws.{lendable-length, settle-lendable, settle-other, step-other, settle-by-index-other, calls-above, calls-settle, calls-other, calls-refused}
 use Rattle.laws.proofs.ReadingLaws.{Sound, reading-sound}
 use Rattle.laws.proofs.ReplyLaws.{refused≢answered, require-answered, answered-inj}
 
@@ -82,18 +83,24 @@ pub step-refused : (n j : ℕ) (T : List ℕ) → step (refused n) j T ≡ refus
 unfolding step onTable andThen
 step-refused n j T = refl
 
+pub settle-by-index-refused : (n : ℕ) (I T : List ℕ) → settleByIndex (refused n) I T ≡ refused n
+unfolding settleByIndex onTable andThen
+settle-by-index-refused n I T = refl
+
 refused-alike : {A B : Type 0} {n m : ℕ} → _≡_ {A = Reply A} (refused n) (refused m) → _≡_ {A = Reply B} (refused n) (refused m)
 refused-alike {A} {B} {n} {m} e = let q : n ≡ m = cc in ap (λ (k : ℕ). refused k) q
 
 demand : (r : Reading) → ((a : Accepted) → r ≡ answered a → Sound a) → Demand r
 demand (refused n) so = record {
   every-call = λ T m e j. step-refused n j T ∙ refused-alike (sym (settle-refused n T) ∙ e);
+  every-index = λ T m e I. settle-by-index-refused n I T ∙ refused-alike (sym (settle-refused n T) ∙ e);
   refusing = λ T m e cs. calls-refused n cs T;
   calling = λ a e. absurd (refused≢answered e);
   searching = λ a e. absurd (refused≢answered e);
 }
 demand (answered b) so = record {
   every-call = λ T n e j. let l = refused-table b T n e in step-other b T j l ∙ refused-alike (sym (settle-other b T l) ∙ e);
+  every-index = λ T n e I. let l = refused-table b T n e in settle-by-index-other b I T l ∙ refused-alike (sym (settle-other b T l) ∙ e);
   refusing = λ T n e cs. calls-other b cs T (refused-table b T n e);
   calling = λ a e T bd m s cs.
       let q : b ≡ a = answered-inj e in

@@ -12,18 +12,22 @@ use Rattle.model.specs.Tree.{solved, nodes, found, none}
 use Rattle.model.specs.Replies.{refused, answered, leaves}
 use Rattle.model.specs.Reading.{Accepted, Reading}
 use Rattle.model.specs.Operations.{stepCount, Stepped, step, Settlement, settle, Searched, search}
+use Rattle.model.specs.Queue.{Queued, settleByIndex}
 
 -- ---- a list of calls
 
--- "list of Step and Settle calls": Step with its number, or Settle
+-- "list of Step and Settle calls": Step with its number, or Settle; "Another entry that a later ticket gives one of these calls counts as that call": the
+-- second settle, with any words for an index
 pub data Call : Type 0 where
   stepCall : ℕ → Call
   settleCall : Call
+  settleByIndexCall : List ℕ → Call
 
 -- the table after a call; "A refused call leaves it as it was"
 unfoldable pub call : Reading → Call → List ℕ → List ℕ
 call r (stepCall j) T = leaves (λ (a : Stepped). a .table) (step r j T) T
 call r settleCall T = leaves (λ (a : Settlement). a .table) (settle r T) T
+call r (settleByIndexCall I) T = leaves (λ (a : Queued). a .table) (settleByIndex r I T) T
 
 -- the table after a list of calls, each on the table that the one before it left; "A list may be empty"
 unfoldable pub calls : Reading → List Call → List ℕ → List ℕ
@@ -68,8 +72,10 @@ pub record SearchClaim (a : Accepted) (budget : ℕ) (z : Searched) : Type 0 whe
 -- ---- demand 3, for what reading a file gives
 
 pub record Demand (r : Reading) : Type 0 where
-  -- "Where the file or the table is itself refused, so is every call": Settle refuses just these, and every Step then refuses with its number
+  -- "Where the file or the table is itself refused, so is every call": Settle refuses just these, and every Step and every second settle then refuses with its
+  -- number
   pub every-call : (T : List ℕ) (n : ℕ) → settle r T ≡ refused n → (j : ℕ) → step r j T ≡ refused n
+  pub every-index : (T : List ℕ) (n : ℕ) → settle r T ≡ refused n → (I : List ℕ) → settleByIndex r I T ≡ refused n
   -- "the table after the list is the starting one"
   pub refusing : (T : List ℕ) (n : ℕ) → settle r T ≡ refused n → (cs : List Call) → calls r cs T ≡ T
   pub calling : (a : Accepted) → r ≡ answered a → (T : List ℕ) → Words T → (m : Settlement) → settle r T ≡ answered m → (cs : List Call) → ListClaim a T m cs

@@ -15,16 +15,12 @@ use Rattle.model.specs.Constraints.{Choice, Problem, Constraint, Automaton, var
 use Rattle.model.specs.Solutions.{InRange}
 use Rattle.model.specs.Rounds.{variablesOf}
 use Rattle.rows.specs.Rows.{alone}
-use Rattle.laws.specs.Inclusion.{In}
+use Rattle.laws.specs.Inclusion.{In, Distinct}
 use Rattle.laws.proofs.ListLaws.{getD-in}
 use Rattle.laws.proofs.NodeLaws.{of-variables}
 use Rattle.laws.proofs.RenameLaws.{Places, renamed, pulled}
 
 -- ---- lists of positions
-
-abbrev pub Distinct : List ℕ → Type 0
-Distinct [] = Unit {0}
-Distinct (x ∷ xs) = ((y : ℕ) → In y xs → y ≢ x) × Distinct xs
 
 unfoldable pub indexOf : ℕ → List ℕ → ℕ
 indexOf y [] = 0

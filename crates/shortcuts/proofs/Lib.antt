@@ -5,3 +5,4 @@ pub mod WaitLaws
 pub mod RunningLaws
 pub mod TurnLaws
 pub mod KeptLaws
+pub mod QueueSettledLaws

@@ -21,7 +21,8 @@ use Rattle.steps.specs.declared.Names.{Names}
 use Rattle.steps.specs.Step.{cleared}
 use Rattle.steps.specs.Names.{texts, numbers, Naming, Inside, Blanked}
 use Rattle.steps.proofs.ClearLaws.{is-cleared}
-use Rattle.steps.proofs.NarrowsLaws.{of-map, str-in, num-in}
+use Rattle.steps.proofs.NarrowsLaws.{of-map, num-in}
+use Rattle.steps.proofs.NamingLaws.{named-text, text-named}
 use Rattle.steps.proofs.TidyLaws.{take-next}
 
 pub blanked-none : (T : List ℕ) → Blanked [] [] T T
@@ -78,14 +79,14 @@ pub blanked-cleared : (P : Problem) (c : Constraint) (m : Names) (T U : List ℕ
 blanked-cleared P c m T U r n b = is-cleared P c T U (b .size) gone other
   where
     in-text : (x : ℕ) → In (str x) (variables c) → In x (texts m)
-    in-text x k = str-in (texts m) (n .values) x (subst (λ (l : List Variable). In (str x) l) (n .names) k)
+    in-text x k = text-named n k
 
     in-word : (v : ℕ) → In (num v) (variables c) → In (64 * P .strings + v) (numbers m)
     in-word v k = subst (λ (l : List ℕ). In (64 * P .strings + v) l) (sym (n .words))
         (Memᴰ·map (λ (z : ℕ). 64 * P .strings + z) (num-in (texts m) (n .values) v (subst (λ (l : List Variable). In (num v) l) (n .names) k)))
 
     text-in : (x : ℕ) → In x (texts m) → In (str x) (variables c)
-    text-in x i = subst (λ (l : List Variable). In (str x) l) (sym (n .names)) (Memᴰ·append-left (map num (n .values)) (Memᴰ·map str i))
+    text-in x i = named-text n i
 
     value-in : (v : ℕ) → In v (n .values) → In (num v) (variables c)
     value-in v i = subst (λ (l : List Variable). In (num v) l) (sym (n .names)) (Memᴰ·append-right (map str (texts m)) (Memᴰ·map num i))

@@ -9,3 +9,4 @@ pub mod SizeLaws
 pub mod NamingLaws
 pub mod StepLaws
 pub mod TrimSteps
+pub mod TrimmedLaws

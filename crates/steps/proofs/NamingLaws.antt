@@ -1,18 +1,27 @@
 -- What each kind of record names. Assumes nothing.
 use mathlib.Core.Path.{_≡_, refl, sym, ap, ap₂, subst, _∙_}
 use mathlib.Core.Bool.{true, cond}
-use mathlib.Core.List.{List, [], _∷_, _++_, map, List·Memᴰ·head}
+use mathlib.Core.List.{List, [], _∷_, _++_, map, List·Memᴰ·head, Memᴰ·map, Memᴰ·append-left}
 use Prim.Native.Nat.{ℕ, _+_, _*_, _<_, _≤_}
 use native.Mathlib.Omega.{arith}
 use lib.ListN.{length, take}
-use Rattle.model.specs.Domains.{str, num}
+use Rattle.model.specs.Domains.{Variable, str, num}
 use Rattle.model.specs.Constraints.{Constraint, variables}
 use Rattle.laws.specs.Inclusion.{In}
 use Rattle.records.specs.declared.Record.{Record}
 use Rattle.records.specs.declared.Record.the-variants.{Eq, Neq, Rev, Cat, Sub, Len, Regular}
 use Rattle.records.specs.Records.{constraintOf}
 use Rattle.steps.specs.declared.Names.{Names}
-use Rattle.steps.specs.Names.{numbers, Naming, Inside}
+use Rattle.steps.specs.Names.{texts, numbers, Naming, Inside}
+use Rattle.steps.proofs.NarrowsLaws.{str-in}
+
+-- the strings that a constraint names are those of the list
+module _ {s : ℕ} {c : Constraint} {m : Names} (n : Naming s c m) where
+  pub named-text : {x : ℕ} → In x (texts m) → In (str x) (variables c)
+  named-text {x} i = subst (λ (l : List Variable). In (str x) l) (sym (n .names)) (Memᴰ·append-left (map num (n .values)) (Memᴰ·map str i))
+
+  pub text-named : {x : ℕ} → In (str x) (variables c) → In x (texts m)
+  text-named {x} i = str-in (texts m) (n .values) x (subst (λ (l : List Variable). In (str x) l) (n .names) i)
 
 -- the word of the number that is named
 pub number-inside : (m : Names) (T : List ℕ) → Inside m T → m .numbered ≡ true → m .number < length T

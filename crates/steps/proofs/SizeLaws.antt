@@ -13,11 +13,10 @@ use Rattle.model.specs.Words.{bits, word, size}
 use Rattle.model.specs.Domains.{row}
 use Rattle.model.specs.Constraints.{Problem, Constraint}
 use Rattle.model.specs.Support.{narrowed}
-use Rattle.laws.specs.Inclusion.{In, Below}
+use Rattle.laws.specs.Inclusion.{In, Below, Distinct}
 use Rattle.laws.proofs.TableLaws.{bits-most, size-most, struck-size}
 use Rattle.laws.proofs.SupportLaws.{narrowed-below}
 use Rattle.rows.specs.Rows.{stored}
-use Rattle.rows.proofs.NamedLaws.{Distinct}
 use Rattle.rows.proofs.StoreLaws.{stored-length, row-stored-other, stored-before, stored-after, stored-inside}
 use Rattle.laws.proofs.DomainLaws.{row-length, row-word}
 use Rattle.inplace.specs.InTable.{Out}

@@ -16,7 +16,7 @@ use Rattle.model.specs.Solutions.{InRange}
 use Rattle.model.specs.Support.{touches, narrowed}
 use Rattle.model.specs.Layout.{Bytes}
 use Rattle.model.specs.Reading.{repeats}
-use Rattle.laws.specs.Inclusion.{In, Below}
+use Rattle.laws.specs.Inclusion.{In, Below, Distinct}
 use Rattle.laws.specs.Lent.{lendable}
 use Rattle.laws.proofs.ListLaws.{in-any}
 use Rattle.laws.proofs.DomainLaws.{by-word, owner-text, owner-value, variable-same}
@@ -24,7 +24,6 @@ use Rattle.laws.proofs.ReadingLaws.{Sound}
 use Rattle.laws.proofs.CallLaws.{lendable-length, lendable-below}
 use Rattle.laws.proofs.SupportLaws.{touched, narrowed-other, narrowed-length, narrowed-below}
 use Rattle.laws.proofs.TableLaws.{size-le}
-use Rattle.rows.proofs.NamedLaws.{Distinct}
 use Rattle.layout.specs.declared.Parts.{Parts}
 use Rattle.records.specs.declared.Record.{Record}
 use Rattle.records.specs.Records.{constraintOf}
@@ -36,7 +35,8 @@ use Rattle.inplace.specs.InPlace.{taken}
 use Rattle.steps.specs.declared.Names.{Names}
 use Rattle.steps.specs.Step.{Step, TidyIn, Narrows, Leaves, KindsIn}
 use Rattle.steps.specs.Names.{texts, numbers, Naming, Inside, Tidies, Blanked}
-use Rattle.steps.proofs.NarrowsLaws.{of-map, str-in, num-in}
+use Rattle.steps.proofs.NarrowsLaws.{of-map, num-in}
+use Rattle.steps.proofs.NamingLaws.{named-text, text-named}
 use Rattle.steps.proofs.BlankLaws.{blanked-cleared}
 use Rattle.steps.proofs.SizeLaws.{Plain, plain-none, plain-one, size-differs, step-counted}
 
@@ -76,7 +76,7 @@ module _ (file : List ℕ) (p : Parts) (r : Record) (T : List ℕ) (b : Bytes fi
   ranged v k = sound .well-formed c (pre .2) v k
 
   text-in : (x : ℕ) → In x (texts m) → In (str x) (variables c)
-  text-in x i = subst (λ (l : List Variable). In (str x) l) (sym (named .names)) (Memᴰ·append-left (map num (named .values)) (Memᴰ·map str i))
+  text-in x i = named-text named i
 
   value-in : (v : ℕ) → In v (named .values) → In (num v) (variables c)
   value-in v i = subst (λ (l : List Variable). In (num v) l) (sym (named .names)) (Memᴰ·append-right (map str (texts m)) (Memᴰ·map num i))
@@ -87,7 +87,7 @@ module _ (file : List ℕ) (p : Parts) (r : Record) (T : List ℕ) (b : Bytes fi
       let t = of-map (λ (z : ℕ). 64 * P .strings + z) (naming .values) (subst (λ (l : List ℕ). In i l) (naming .words) k) in
       (t .0, subst (λ (l : List Variable). In (num (t .0)) l) (sym (naming .names)) (Memᴰ·append-right (map str (texts m)) (Memᴰ·map num (t .1))), t .2)
 
-  inside-of : (U : List ℕ) → length U ≡ length T → Inside m U
+  pub inside-of : (U : List ℕ) → length U ≡ length T → Inside m U
   inside-of U e = record {
     most = named .most;
     rows = λ x i. let h : x < P .strings = ranged (str x) (text-in x i) in let l = long in omega arith;
@@ -110,8 +110,7 @@ module _ (file : List ℕ) (p : Parts) (r : Record) (T : List ℕ) (b : Bytes fi
     where
       never : (k : ℕ) → ((x : ℕ) → In x (texts m) → Out x k) → ((i : ℕ) → In i (numbers m) → k ≢ i) → touches P c k ≡ true → ⊥
       never = by-word (P .strings) (λ k. ((x : ℕ) → In x (texts m) → Out x k) → ((i : ℕ) → In i (numbers m) → k ≢ i) → touches P c k ≡ true → ⊥)
-          (λ x j h l f g t. f x (str-in (texts m) (naming .values) x (subst (λ (l : List Variable). In (str x) l) (naming .names)
-          (subst (λ (v : Variable). In v (variables c)) (owner-text (P .strings) x j h l) (touched P c (64 * x + j) t)))) j l refl)
+          (λ x j h l f g t. f x (text-named naming (subst (λ (v : Variable). In v (variables c)) (owner-text (P .strings) x j h l) (touched P c (64 * x + j) t))) j l refl)
           (λ v f g t. g (64 * P .strings + v) (subst (λ (l : List ℕ). In (64 * P .strings + v) l) (sym (naming .words))
           (Memᴰ·map (λ (z : ℕ). 64 * P .strings + z) (num-in (texts m) (naming .values) v (subst (λ (l : List Variable). In (num v) l) (naming .names)
           (subst (λ (u : Variable). In u (variables c)) (owner-value (P .strings) v) (touched P c (64 * P .strings + v) t)))))) refl)
@@ -175,7 +174,7 @@ module _ (file : List ℕ) (p : Parts) (r : Record) (T : List ℕ) (b : Bytes fi
       lendable-below P T₁ T (t .below P long (λ x i. ranged (str x) (text-in x i))) (pre .1),
       ks,
       pre .2,
-      λ x i. t .tidy q x (str-in (texts m) (named .values) x (subst (λ (l : List Variable). In (str x) l) (named .names) i)),
+      λ x i. t .tidy q x (text-named named i),
     )
 
     pub any-narrowed : (U : List ℕ) (a : Change) → Narrows P c T₁ U a → Leaves P c T U (a .left)

@@ -159,9 +159,12 @@ module _ (m : Names) (T : List ℕ) (f : Inside m T) (l : length (m .strings) �
   less = let k = f .most in omega arith
 
   -- the next string is one of those that are named
+  pub next-named : In (getD (m .strings) j 0) (texts m)
+  next-named = take-in (m .strings) (j + 1) (m .count) (omega arith)
+      (subst (λ (l : List ℕ). In (getD (m .strings) j 0) l) (sym (take-next (m .strings) j less)) (Memᴰ·append-right (take j (m .strings)) (List·Memᴰ·head refl)))
+
   pub next-inside : 64 * getD (m .strings) j 0 + 64 ≤ length T
-  next-inside = f .rows (getD (m .strings) j 0) (take-in (m .strings) (j + 1) (m .count) (omega arith)
-      (subst (λ (l : List ℕ). In (getD (m .strings) j 0) l) (sym (take-next (m .strings) j less)) (Memᴰ·append-right (take j (m .strings)) (List·Memᴰ·head refl))))
+  next-inside = f .rows (getD (m .strings) j 0) next-named
 
   module _ {U W : List ℕ} {some : Bool} (g : Tidies (take j (m .strings)) T U true) (t : Trimmed U (getD (m .strings) j 0) W some) where
     after : Tidies (take (j + 1) (m .strings)) T W some

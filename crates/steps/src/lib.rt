@@ -1,7 +1,7 @@
 // One step on a lent table, in place. `narrow` asks tidy rows, as a search has them; `apply` takes any table: it makes the rows that its constraint names tidy
 // first, and where no choice is left it strikes all their bits. `step` is `apply` with the count of the bits that it strikes.
 //
-// Assumes nothing. `requires` asks what refusals 1 to 10 leave, and within the crate that positions lie inside the table.
+// Assumes nothing. `requires` asks what refusals 1 to 10 leave, and that positions lie inside the table.
 ghost use mathlib.Core.Path.{_≡_};
 ghost use mathlib.Core.Bool.{true};
 ghost use mathlib.Core.List.{[], _∷_};
@@ -83,11 +83,11 @@ pub fn narrow(
 }
 
 // What a constraint names: its strings, and the word of its number, if it has one.
-struct Names {
-    strings: [usize; 3],
-    count: usize,
-    number: usize,
-    numbered: bool,
+pub struct Names {
+    pub strings: [usize; 3],
+    pub count: usize,
+    pub number: usize,
+    pub numbered: bool,
 }
 
 // So many strings and no number.
@@ -115,7 +115,7 @@ fn numbered(strings: [usize; 3], count: usize, number: usize) -> Names
 }
 
 // What a record names, in a table of s strings.
-fn of_record(r: records::Record, s: usize) -> Names
+pub fn of_record(r: records::Record, s: usize) -> Names
     requires { ⌜ s ≤ 16 ⌝ }
     ensures { λ m. ⌜ Naming s (constraintOf r) m ⌝ }
 {
@@ -158,7 +158,7 @@ fn blank(table: &mut [u64], x: usize)
 }
 
 // Strikes every bit of what is named.
-fn clear(table: &mut [u64], m: Names)
+pub fn clear(table: &mut [u64], m: Names)
     requires { ⌜ Inside m (now table) ⌝ }
     ensures { λ r. ⌜ Blanked (texts m) (numbers m) (now (table .entry)) (now (table .exit)) ⌝ }
 {

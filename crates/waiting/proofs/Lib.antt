@@ -4,4 +4,3 @@ pub mod BeginLaws
 pub mod TakingLaws
 pub mod SettleLaws
 pub mod StepLaws
-pub mod TidyLaws

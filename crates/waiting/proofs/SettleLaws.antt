@@ -20,11 +20,11 @@ use Rattle.layout.specs.declared.Parts.{Parts}
 use Rattle.format.specs.Accepting.{problemIn, Usable}
 use Rattle.format.proofs.ContentLaws.{usable-counts, usable-sound, usable-width}
 use Rattle.steps.specs.Step.{KindsIn}
+use Rattle.steps.proofs.TrimmedLaws.{tidy-string}
 use Rattle.index.specs.Index.{Index}
 use Rattle.waiting.specs.Turns.{Inside, TidyRows, Pending, Ends}
 use Rattle.waiting.specs.Beginnings.{Readies, Wakes, Lengths}
 use Rattle.waiting.proofs.BeginLaws.{ready-pending}
-use Rattle.waiting.proofs.TidyLaws.{tidy-string}
 
 module _ (file : List ℕ) (p : Parts) (ix T : List ℕ) (k : ℕ) (bytes : Bytes file) (bd : Words T)
     (pre : Usable file p × (lendable (problemIn file p) T ≡ true) × (length ix ≡ 32) × Index (problemIn file p) ix × Begun (problemIn file p) T k) where

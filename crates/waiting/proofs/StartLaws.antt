@@ -1,21 +1,19 @@
 -- How a run starts: at a table of which nothing is known every string is trimmed and every constraint waits; at a child only the string of its word is trimmed,
 -- and the constraints that name the word's variable wait. Assumes nothing.
 use mathlib.Core.Path.{_≡_, sym, ap, subst, _∙_}
-use mathlib.Core.Bool.{true, false, false≢true}
+use mathlib.Core.Bool.{true, false}
 use mathlib.Core.List.{List}
-use Prim.Native.Nat.{ℕ, _+_, _-_, _/_, _^_, _<_}
+use Prim.Native.Nat.{ℕ, _+_, _/_, _^_, _<_}
 use native.Mathlib.Omega.{arith}
-use lib.Dec.{ltb}
 use lib.ListN.{length, getD, set}
-use borrow.Author.Tests.{ltb-true, lt-ltb}
 use Rattle.model.specs.Words.{bit, Words}
 use Rattle.model.specs.Domains.{str, num, owner}
 use Rattle.model.specs.Constraints.{Problem, always, variables, width}
 use Rattle.model.specs.Solutions.{WellFormed}
 use Rattle.model.specs.Support.{touches, narrowed}
 use Rattle.laws.specs.Inclusion.{In}
-use Rattle.laws.proofs.WordLaws.{zero-bit, bit-high}
-use Rattle.laws.proofs.ShiftLaws.{bit-shr, bit-mask}
+use Rattle.laws.proofs.WordLaws.{bit-high}
+use Rattle.laws.proofs.ShiftLaws.{bit-shr}
 use Rattle.shortcuts.specs.Waiting.{Trimming, Child}
 use Rattle.shortcuts.proofs.RunningLaws.{child-number, child-text, trim-whole}
 use Rattle.shortcuts.proofs.TurnLaws.{woken-named}
@@ -26,16 +24,6 @@ use Rattle.waiting.specs.Turns.{Inside, Pending}
 -- a bit from i on
 pub bit-later : (w i b : ℕ) → w < 2 ^ 64 → bit (w / 2 ^ i) b ≡ true → (bit w (i + b) ≡ true) × (i + b < 64)
 bit-later w i b h q = let r : bit w (i + b) ≡ true = sym (bit-shr w i b) ∙ q in (r, bit-high w 64 (i + b) h r)
-
--- the word of the numbers below c
-pub all-none : ((j : ℕ) → bit 0 j ≡ true → j < 0) × ((j : ℕ) → j < 0 → bit 0 j ≡ true)
-all-none = ((λ j q. absurd (false≢true (sym (zero-bit j) ∙ q))), (λ j h. absurd (omega arith)))
-
-pub all-low : (c w : ℕ) → (c ≡ 0 → ⊥) → w ≡ 2 ^ (c - 1 + 1) - 1 → ((j : ℕ) → bit w j ≡ true → j < c) × ((j : ℕ) → j < c → bit w j ≡ true)
-all-low c w n e = ((λ j q. ltb-true j c (sym (at j) ∙ q)), (λ j h. at j ∙ lt-ltb j c h))
-  where
-    at : (j : ℕ) → bit w j ≡ ltb j c
-    at j = let z : c - 1 + 1 ≡ c = omega (arith, n) in ap (λ (v : ℕ). bit v j) e ∙ bit-mask (c - 1 + 1) j ∙ ap (ltb j) z
 
 -- ---- the three ways to start
 

@@ -92,17 +92,6 @@ fn run(
     true
 }
 
-// The word of the constraints 0 to c - 1.
-fn all(c: usize) -> u64
-    requires { ⌜ c ≤ 64 ⌝ }
-    ensures { λ w. ⌜ ((j : ℕ) → bit w j ≡ true → j < c) × ((j : ℕ) → j < c → bit w j ≡ true) ⌝ }
-{
-    if c == 0 {
-        return 0;
-    }
-    words::low_mask(c - 1)
-}
-
 // Makes every row tidy, as long as each has a value; whether all have.
 fn tidy_all(table: &mut [u64], s: usize) -> bool
     requires { ⌜ 64 * s ≤ length (now table) ⌝ }
@@ -137,7 +126,7 @@ fn first_waiting(p: layout::Parts, ix: &[u64], n: usize, from: usize) -> u64
     ensures { λ w. ⌜ Wakes p (now (ix .entry)) n from w ⌝ }
 {
     if from >= n {
-        return all(p.c);
+        return words::below(p.c);
     }
     index::touching(ix, p.s, from)
 }

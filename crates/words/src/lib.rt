@@ -2,7 +2,8 @@
 //
 // Assumes nothing. A position is a `usize` below 64; a word that is asked for its lowest or highest bit has one.
 ghost use mathlib.Core.Path.{_≡_};
-ghost use Prim.Native.Nat.{_<_, _≤_, _+_, _-_, _^_};
+ghost use mathlib.Core.Bool.{true};
+ghost use Prim.Native.Nat.{ℕ, _<_, _≤_, _+_, _-_, _^_};
 ghost use lib.ListN.{length};
 ghost use Rattle.model.specs.Words.{bit, bits, several, noneFrom};
 ghost use Rattle.words.specs.Ends.{Highest, Lowest};
@@ -97,6 +98,17 @@ pub fn low_mask(i: usize) -> u64
     ensures { λ r. ⌜ r ≡ 2 ^ (i + 1) - 1 ⌝ }
 {
     LOW[i]
+}
+
+// The word with the bits below n.
+pub fn below(n: usize) -> u64
+    requires { ⌜ n ≤ 64 ⌝ }
+    ensures { λ w. ⌜ ((j : ℕ) → bit w j ≡ true → j < n) × ((j : ℕ) → j < n → bit w j ≡ true) ⌝ }
+{
+    if n == 0 {
+        return 0;
+    }
+    low_mask(n - 1)
 }
 
 // Whether w has no bit at k or above.

@@ -15,6 +15,23 @@ pub fn p14_table() -> Vec<u64> {
     table
 }
 
+/// Cat leaves X only 0 at place 1, where Z has nothing else.
+pub fn after_cat() -> Vec<u64> {
+    let mut table = p14_table();
+    table[1] = 0b1;
+    table
+}
+
+/// Len leaves the number the lengths 1 and 2.
+pub fn after_both() -> Vec<u64> {
+    let mut table = after_cat();
+    table[192] = 0b110;
+    table
+}
+
+/// Steps 0 Cat(X, Y, Z) and 1 Len(X, number), then the trimmings of X, Y and Z: X is touched by 0, 1 and 2, Y by 0 and 3, Z by 0 and 4, the number by 1.
+pub const P14_INDEX: [u64; 8] = [0b111, 0, 0b1001, 0, 0b10001, 0, 0b10, 0];
+
 /// X is 0, Y is 1, Z is 0 1, the number is 1.
 pub fn solved() -> Vec<u64> {
     let mut table = vec![0; WORDS];

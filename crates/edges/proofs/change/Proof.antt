@@ -11,10 +11,10 @@ use Rattle.little.proofs.eight.Reads as eight-reads
 use Rattle.little.proofs.two.Reads as two-reads
 
 abbrev Inv-loop : tie.InvT-loop
-Inv-loop table₀ changes at₀ table at = (length table ≡ length table₀) × (at ≤ length changes)
+Inv-loop words₀ first changes at₀ words at = (length words ≡ length words₀) × (at ≤ length changes)
 
 abbrev μ-loop : tie.MeasureT-loop
-μ-loop table₀ changes at₀ table at = length changes - at
+μ-loop words₀ first changes at₀ words at = length changes - at
 
 loop-holds : tie.Need-loop-holds Inv-loop μ-loop
 loop-holds c = search needs

@@ -1,0 +1,3 @@
+-- The definitions that the contracts of `striking` cite.
+pub mod Strikes
+pub mod Named
