@@ -1,6 +1,6 @@
 -- Where the variables that a record names stand, as an array lists them, and the union of their words in a lent index. Assumes nothing.
 use mathlib.Core.Path.{_≡_, sym, ap, ap₂, subst, _∙_}
-use mathlib.Core.List.{List, [], _∷_, _++_, map, map-append, Memᴰ·of-map}
+use mathlib.Core.List.{List, [], _∷_, _++_, map, map-append}
 use Prim.Native.Nat.{ℕ, _+_, _*_, _≤_, _<_}
 use native.Mathlib.Omega.{arith}
 use lib.Bits.{bitOr, or-zero-r}
@@ -17,22 +17,16 @@ use Rattle.records.specs.declared.Record.{Record}
 use Rattle.steps.proofs.TidyLaws.{take-next}
 use Rattle.index.specs.declared.Positions.{Positions}
 use Rattle.index.specs.Index.{position}
-use Rattle.index.specs.Joining.{named, positions, Fits}
 use Rattle.index.specs.Standing.{listed, Standing, Lent}
 use Rattle.index.proofs.KindLaws.{Names}
 
 -- the first n of these are where the variables stand that r names
 pub standing : (s : ℕ) {r : Record} {vs : List Variable} {at : List ℕ} {n : ℕ} {m : Positions} → Names r vs → n ≤ 3 → take n at ≡ map (position s) vs
     → (m .at ≡ at) × (m .count ≡ n) → Standing s r m
-standing s {r} {vs} {at} {n} {m} e l f q = record { most = omega (arith, q .1); are = are; inside = λ g i k. inside g i k }
-  where
-    are : listed m ≡ positions s r
-    are = ap₂ (λ (k : ℕ) (is : List ℕ). take k is) (q .1) (q .0) ∙ f ∙ ap (map (position s)) (sym (e .are))
-
-    inside : Fits s r → (i : ℕ) → In i (listed m) → i < 32
-    inside g i k =
-        let v = Memᴰ·of-map (position s) (named r) (subst (In i) are k) in
-        subst (λ (j : ℕ). j < 32) (v .2) (g .inside (v .0) (v .1))
+standing s {r} {vs} {at} {n} {m} e l f q = record {
+  most = omega (arith, q .1);
+  are = ap₂ (λ (k : ℕ) (is : List ℕ). take k is) (q .1) (q .0) ∙ f ∙ ap (map (position s)) (sym (e .are));
+}
 
 pub position-below : (P : Problem) (v : Variable) → InRange P v → position (P .strings) v < P .strings + P .numbers
 unfolding position

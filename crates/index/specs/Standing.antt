@@ -1,12 +1,12 @@
 -- Where the variables that a record names stand, as an array lists them, and whether a lent index has their words. Assumes nothing.
 use mathlib.Core.Path.{_≡_}
 use mathlib.Core.List.{List}
-use Prim.Native.Nat.{ℕ, _+_, _*_, _<_, _≤_}
+use Prim.Native.Nat.{ℕ, _+_, _*_, _≤_}
 use lib.ListN.{take}
 use Rattle.laws.specs.Inclusion.{In}
 use Rattle.records.specs.declared.Record.{Record}
 use Rattle.index.specs.declared.Positions.{Positions}
-use Rattle.index.specs.Joining.{positions, Fits}
+use Rattle.index.specs.Joining.{positions}
 
 -- the positions that m lists
 abbrev pub listed : Positions → List ℕ
@@ -16,7 +16,6 @@ listed m = take (m .count) (m .at)
 pub record Standing (s : ℕ) (r : Record) (m : Positions) : Type 0 where
   pub most : m .count ≤ 3
   pub are : listed m ≡ positions s r
-  pub inside : Fits s r → (i : ℕ) → In i (listed m) → i < 32
 
 -- a lent index of n words has both words of each variable that m lists
 pub record Lent (m : Positions) (n : ℕ) : Type 0 where

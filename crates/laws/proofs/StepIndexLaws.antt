@@ -2,7 +2,7 @@
 use mathlib.Core.Path.{_≡_, refl, sym, ap, subst, _∙_}
 use mathlib.Core.Bool.{Bool, true, false, _&&_}
 use mathlib.Core.List.{List, [], _∷_, _++_, map, flatMap, Memᴰ·map, Memᴰ·of-map}
-use Prim.Native.Nat.{ℕ, zero, suc, _+_, _-_, _*_, _/_, _%_, _^_, _≤_, _<_}
+use Prim.Native.Nat.{ℕ, zero, suc, _+_, _-_, _*_, _^_, _≤_, _<_}
 use native.Mathlib.Omega.{arith}
 use native.Mathlib.Nat.{mul-suc}
 use lib.Dec.{leb, ltb}
@@ -156,11 +156,6 @@ module _ (P : Problem) where
   pub index-pair : (i h : ℕ) → i < P .strings + P .numbers → h < 2 → word (indexOf P) (2 * i + h) ≡ wordFrom (64 * h) (touching P (getD (variablesOf P) i (str 0)))
   unfolding indexOf
   index-pair i h l k = blocks-getD (pair P) 2 pair-length (variablesOf P) i h (str 0) 0 (omega (arith, variables-length)) k ∙ pair-word (getD (variablesOf P) i (str 0)) h k
-
-  pub index-word : (i : ℕ) → i < 2 * (P .strings + P .numbers) → word (indexOf P) i ≡ wordFrom (64 * (i % 2)) (touching P (getD (variablesOf P) (i / 2) (str 0)))
-  index-word i l =
-      let e : 2 * (i / 2) + i % 2 ≡ i = omega arith in
-      ap (word (indexOf P)) (sym e) ∙ index-pair (i / 2) (i % 2) (omega arith) (omega arith)
 
   pub index-string : (x h : ℕ) → x < P .strings → h < 2 → word (indexOf P) (2 * x + h) ≡ wordFrom (64 * h) (touching P (str x))
   index-string x h l k = index-pair x h (omega arith) k ∙ ap (λ (v : Variable). wordFrom (64 * h) (touching P v)) (variables-string x l)
