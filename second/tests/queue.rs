@@ -6,16 +6,6 @@ use common::*;
 use second::file::Problem;
 use second::queue;
 
-fn draft(symbols: u8, rows: &[Row], numbers: &[u64], constraints: &[[u8; 4]]) -> Draft {
-    Draft {
-        symbols,
-        rows: rows.to_vec(),
-        numbers: numbers.to_vec(),
-        constraints: constraints.to_vec(),
-        automata: vec![],
-    }
-}
-
 fn index_of(file: &[u8]) -> Vec<u64> {
     let header = second::read(file).unwrap();
     let mut index = vec![7; 2 * (header.strings + header.numbers)];

@@ -3,16 +3,6 @@
 mod common;
 use common::*;
 
-fn draft(symbols: u8, rows: &[Row], numbers: &[u64], constraints: &[[u8; 4]]) -> Draft {
-    Draft {
-        symbols,
-        rows: rows.to_vec(),
-        numbers: numbers.to_vec(),
-        constraints: constraints.to_vec(),
-        automata: vec![],
-    }
-}
-
 fn after_step(draft: &Draft) -> (u32, Vec<u64>) {
     let mut lent = draft.table();
     let struck = second::step(&draft.bytes(), 0, &mut lent).unwrap();

@@ -115,6 +115,17 @@ impl Draft {
     }
 }
 
+/// A problem without automata.
+pub fn draft(symbols: u8, rows: &[Row], numbers: &[u64], constraints: &[[u8; 4]]) -> Draft {
+    Draft {
+        symbols,
+        rows: rows.to_vec(),
+        numbers: numbers.to_vec(),
+        constraints: constraints.to_vec(),
+        automata: vec![],
+    }
+}
+
 /// The file of P14, put down byte by byte.
 pub fn p14() -> Vec<u8> {
     let mut file = vec![0u8; 1576];
