@@ -137,6 +137,9 @@ EDGES = [
     ("a lent table that fits", file(t=2, words={0: 1, 1: 2}), 2, (4, 0, 2, 0, 0), "done", 3),
     ("the largest file, every bit there", largest(), 1040, (64, 16, 16, 8, 64), "done", 2**64 - 1040),
 ]
+# the word of the symbols 0 to k - 1, for each k: all of them are there in the last place of a string, and one symbol more is too many
+EDGES += [(f"k {k} with every symbol", file(k=k, s=1, words={63: 2**k - 1}), 64, (k, 1, 0, 0, 0), "done", 2**k - 1) for k in range(1, 65)]
+EDGES += [(f"k {k} with symbol {k}", file(k=k, s=1, words={63: 2**k}), 64, 6, 6, 448) for k in range(1, 64)]
 
 
 NOTHING = row(())
@@ -214,6 +217,11 @@ STEPS = [
     ("the lent symbols are looked at before the number", PLAIN, 99, table([row({1}, {4})], [()]), "refused 10", None),
     ("a number equal to c + s", PLAIN, 1, MARKS, "refused 11", None),
     ("no step at all", file(), 0, [], "refused 11", None),
+]
+
+# the word of the lengths 0 to i, for each i: a trimming leaves them where every length is allowed and just the first i places have symbols
+STEPS += [
+    (f"the lengths 0 to {i}", over(4, 1, 0, []), 0, row(range(64), *[{1, 3}] * i), f"struck {63 - i}", row(range(i + 1), *[{1, 3}] * i)) for i in range(64)
 ]
 
 # ---- Settle: (what is tried, file, lent table, rounds and whether every variable has a value, table afterwards; None where it is untouched)

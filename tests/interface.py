@@ -118,6 +118,15 @@ def c_programs():
     return run([TARGET / "entries"]).strip()
 
 
+def no_table_of_masks(program):
+    """The words of the lengths 0 to i lie nowhere in the program, neither among its constants nor in its code. Those from i = 32 on take all of their 8 bytes;
+    a table would show most of them, and few can be there by chance."""
+    content, masks = program.read_bytes(), [2 ** (i + 1) - 1 for i in range(32, 63)]
+    held = [mask for mask in masks if mask.to_bytes(8, "little") in content]
+    if len(held) > len(masks) // 2:
+        raise Failure(f"{program.name} has {len(held)} of the {len(masks)} words of the lengths 0 to i: a table of them is left")
+
+
 def printed(program, *arguments, given=b""):
     done = subprocess.run([str(program), *map(str, arguments)], input=given, stdout=subprocess.PIPE, stderr=subprocess.DEVNULL)
     return done.stdout, done.returncode
@@ -185,6 +194,7 @@ def main():
         constants_agree()
         needs_agree()
         checks = c_programs()
+        no_table_of_masks(TARGET / "entries")  # it calls every entry, so all of the archive is in it
         tests = rust_tests()
         count = examples()
         calls_of_answer()

@@ -44,6 +44,7 @@ MISTAKE(order_12_13, "Search: refusal 13 comes before 12")
 /* Refusals 9 to 13. */
 MISTAKE(table_longer, "Unpack: refusal 9 lets a table with one word more pass")
 MISTAKE(lent_symbol_63, "Step: refusal 10 does not see symbol 63 of 63")
+MISTAKE(lent_symbols_64, "Step: refusal 10 takes the 64 symbols of k 64 for none")
 MISTAKE(step_past, "Step: refusal 11 lets the first number that is no step pass")
 MISTAKE(step_32_bits, "Step: refusal 11 looks at 32 bits of the number")
 MISTAKE(room_short, "Search: refusal 12 lets a room with one word less pass")
@@ -52,6 +53,8 @@ MISTAKE(answer_longer, "Search: refusal 13 lets an answer table with one word mo
 /* Trimming and the relations, in Step. */
 MISTAKE(trim_untidy, "trimming leaves symbols past the longest string")
 MISTAKE(trim_63, "trimming leaves place 63")
+MISTAKE(lengths_63, "trimming takes the lengths 0 to 63 for none")
+MISTAKE(lengths_32, "trimming works the lengths 0 to i out in 32 bits")
 MISTAKE(eq_50, "Eq does not see a difference at place 50 or beyond")
 MISTAKE(neq_50, "Neq does not see a difference at place 50 or beyond")
 MISTAKE(rev_50, "Rev does not see a difference at place 50 or beyond")

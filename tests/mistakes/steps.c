@@ -61,8 +61,21 @@ static void leave_place(uint64_t *table, size_t string, size_t place)
     table[ROW * string + place] = before[ROW * string + place];
 }
 
+/* Of the row's lengths those in the word stay, and of its symbols those that a string of such a length reaches. */
+static void shortened(uint64_t *row, uint64_t word)
+{
+    row[0] &= word;
+    for (size_t i = (size_t)highest(row[0]) + 1; i < ROW; i++)
+        row[i] = 0;
+}
+
 static void trimmed(uint64_t *table, size_t x)
 {
+    /* the word that the row's lengths are held against, by a shift that fails at 64 or at 32 bits */
+    if (planted == lengths_63 && table[ROW * x] >> 63)
+        shortened(table + ROW * x, 0);
+    if (planted == lengths_32)
+        shortened(table + ROW * x, UINT32_MAX);
     if (planted == trim_63)
         leave_place(table, x, PLACES);
     if (planted == trim_untidy)
@@ -200,6 +213,16 @@ static uint8_t refused(uint8_t number, const uint8_t *file, size_t size, size_t 
     return number;
 }
 
+/* Whether there are 64 symbols, and a string's row has one of them. */
+static int symbols_of_64(const uint8_t *file, size_t size, const uint64_t *table)
+{
+    struct counts counts = counts_of(file, size);
+    for (size_t at = 0; counts.symbols == 64 && at < ROW * counts.strings; at++)
+        if (at % ROW != 0 && table[at] != 0)
+            return 1;
+    return 0;
+}
+
 uint8_t cobleskeg_step(const uint8_t *file, size_t size, size_t j, uint64_t *table, size_t words, uint32_t *struck)
 {
     static _Thread_local uint64_t tried[COBLESKEG_LARGEST_TABLE];
@@ -208,6 +231,8 @@ uint8_t cobleskeg_step(const uint8_t *file, size_t size, size_t j, uint64_t *tab
     uint8_t number = proved_step(file, size, j, on, words, &unused);
     if (number != 0)
         return refused(number, file, size, j, table, words, struck);
+    if (planted == lent_symbols_64 && symbols_of_64(file, size, table))
+        return 10;
     accepted(file, size, j, table, struck);
     return 0;
 }

@@ -6,12 +6,12 @@ use Prim.Native.Nat.{ℕ, _-_, _^_, _≤_, _<_}
 use native.Mathlib.Omega.{arith}
 use lib.Bits.{bitAnd, bitOr}
 use lib.Dec.{eqb}
-use borrow.Author.Tests.{ltb-true, lt-ltb, eqb-true}
+use borrow.Author.Tests.{eqb-true}
 use Rattle.model.specs.Words.{bit}
 use Rattle.model.specs.Constraints.{Automaton, move}
 use Rattle.laws.proofs.ListLaws.{and-true, true-and}
 use Rattle.laws.proofs.WordLaws.{zero-bit, pow-self, pow-only, or-bit-left, or-bit-right, of-or-bit, bit-high, bit-sub, sub-within}
-use Rattle.laws.proofs.ShiftLaws.{bit-and, bit-mask}
+use Rattle.laws.proofs.ShiftLaws.{bit-and}
 use Rattle.words.specs.Ends.{Lowest}
 use Rattle.automata.specs.StateSets.{Gathered, Found, LowBits, Moves, Enters, Successors}
 
@@ -26,14 +26,12 @@ module _ (E : ℕ → ℕ → Type 0) where
 
 -- ---- loops over the set bits of a word, the lowest first
 
--- the bits of w below n, by the mask of n bits
-pub low-mask : (n w o : ℕ) → o ≡ 2 ^ n → LowBits n w (bitAnd w (o - 1))
-low-mask n w o e = rw e (record {
-  sound = λ i h.
-      let t = and-true (bit w i) (bit (2 ^ n - 1) i) (sym (bit-and w (2 ^ n - 1) i) ∙ h) in
-      (ltb-true i n (sym (bit-mask n i) ∙ t .1), t .0);
-  complete = λ i l h. bit-and w (2 ^ n - 1) i ∙ true-and h (bit-mask n i ∙ lt-ltb i n l);
-})
+-- the bits of w below n, by a word m that has all bits below n and no other
+pub low-common : (n w m : ℕ) → ((j : ℕ) → bit m j ≡ true → j < n) × ((j : ℕ) → j < n → bit m j ≡ true) → LowBits n w (bitAnd w m)
+low-common n w m below = record {
+  sound = λ i h. let t = and-true (bit w i) (bit m i) (sym (bit-and w m i) ∙ h) in (below .0 i (t .1), t .0);
+  complete = λ i l h. bit-and w m i ∙ true-and h (below .1 i l);
+}
 
 -- a word of 64 bits has none at 64 or above
 pub low-all : (n w : ℕ) → n ≤ 64 → 64 ≤ n → w < 2 ^ 64 → LowBits n w w

@@ -65,10 +65,7 @@ pub fn below(w: u64, n: usize) -> u64
     requires { ⌜ n ≤ 64 ⌝ }
     ensures { λ r. ⌜ LowBits n w r ⌝ }
 {
-    if n < 64 {
-        return w & (words::singleton(n) - 1);
-    }
-    w
+    w & words::below(n)
 }
 
 // The states that state p moves to by some symbol of the word.
