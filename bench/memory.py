@@ -9,7 +9,7 @@ from counted import archive
 SORTS = {"code": (".text",), "constants": (".rodata", ".data.rel.ro"), "written": (".data", ".bss")}
 
 
-def sort(section):
+def sort_of(section):
     """What the section holds, or nothing where no program loads it. The longest beginning counts."""
     fitting = [(start, name) for name, starts in SORTS.items() for start in starts if section.startswith(start)]
     return max(fitting, key=lambda pair: len(pair[0]), default=(None, None))[1]
@@ -20,10 +20,10 @@ def main():
     printed = subprocess.run(["size", "-A", path], capture_output=True, text=True, check=True).stdout
     sections = [(name, int(size)) for name, size in re.findall(r"^(\.\S+) +(\d+) ", printed, re.M)]
     print("| " + " | ".join(SORTS) + " |\n" + "|---" * len(SORTS) + "|")
-    print("| " + " | ".join(f"{sum(size for name, size in sections if sort(name) == what):,}" for what in SORTS) + " |")
+    print("| " + " | ".join(f"{sum(size for name, size in sections if sort_of(name) == what):,}" for what in SORTS) + " |")
     print("\n| constants | bytes |\n|---|---|")
     for name, size in sections:
-        if sort(name) == "constants":
+        if sort_of(name) == "constants":
             print(f"| {name} | {size:,} |")
 
 

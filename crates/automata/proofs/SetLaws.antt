@@ -19,6 +19,13 @@ use Rattle.automata.specs.StateSets.{Gathered, Found, LowBits, Moves, En
 pub no-bit : (w i : ℕ) → w ≡ 0 → bit w i ≡ true → ⊥
 no-bit w i e b = false≢true (sym (zero-bit i) ∙ ap (λ (v : ℕ). bit v i) (sym e) ∙ b)
 
+-- the bits of two words that both have
+pub and-both : (v u b : ℕ) → bit v b ≡ true → bit u b ≡ true → bit (bitAnd v u) b ≡ true
+and-both v u b x y = bit-and v u b ∙ true-and x y
+
+pub of-and : (v u b : ℕ) → bit (bitAnd v u) b ≡ true → (bit v b ≡ true) × (bit u b ≡ true)
+of-and v u b e = and-true (bit v b) (bit u b) (sym (bit-and v u b) ∙ e)
+
 module _ (E : ℕ → ℕ → Type 0) where
   -- nothing is given at all
   pub gathered-empty : (n : ℕ) → ((i t : ℕ) → E i t → ⊥) → Gathered n E 0
@@ -29,8 +36,8 @@ module _ (E : ℕ → ℕ → Type 0) where
 -- the bits of w below n, by a word m that has all bits below n and no other
 pub low-common : (n w m : ℕ) → ((j : ℕ) → bit m j ≡ true → j < n) × ((j : ℕ) → j < n → bit m j ≡ true) → LowBits n w (bitAnd w m)
 low-common n w m below = record {
-  sound = λ i h. let t = and-true (bit w i) (bit m i) (sym (bit-and w m i) ∙ h) in (below .0 i (t .1), t .0);
-  complete = λ i l h. bit-and w m i ∙ true-and h (below .1 i l);
+  sound = λ i h. let t = of-and w m i h in (below .0 i (t .1), t .0);
+  complete = λ i l h. and-both w m i h (below .1 i l);
 }
 
 -- a word of 64 bits has none at 64 or above

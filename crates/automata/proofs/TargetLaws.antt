@@ -14,23 +14,16 @@ use borrow.Author.Tests.{eqb-true, eqb-false, lt-ltb}
 use Rattle.model.specs.Words.{bit, word, noneFrom}
 use Rattle.model.specs.Constraints.{Automaton, move}
 use Rattle.laws.specs.Inclusion.{Within}
-use Rattle.laws.proofs.ListLaws.{and-true, true-and}
 use Rattle.laws.proofs.WordLaws.{in-bits, noneFrom-bits, or-bit-left, or-bit-right, of-or-bit, bit-high}
-use Rattle.laws.proofs.ShiftLaws.{bit-and, bit-flip, bit-mask}
+use Rattle.laws.proofs.ShiftLaws.{bit-flip, bit-mask}
 use Rattle.words.specs.Ends.{Lowest}
 use Rattle.words.proofs.EndLaws.{lowest-trailing}
 use Rattle.automata.specs.Machine.{stateCount, machine, Whole}
 use Rattle.automata.specs.StateSets.{Gathered, Moves, Enters, Successors, By, Added, Steps, Targets, Forgotten}
 use Rattle.automata.proofs.MachineLaws.{move-known}
-use Rattle.automata.proofs.SetLaws.{no-bit, Walked, walked-step, walked-skip, walked-one, ByState, ByEntering}
+use Rattle.automata.proofs.SetLaws.{no-bit, and-both, of-and, Walked, walked-step, walked-skip, walked-one, ByState, ByEntering}
 
 -- ---- words without others
-
-pub and-both : (v u b : ℕ) → bit v b ≡ true → bit u b ≡ true → bit (bitAnd v u) b ≡ true
-and-both v u b x y = bit-and v u b ∙ true-and x y
-
-pub of-and : (v u b : ℕ) → bit (bitAnd v u) b ≡ true → (bit v b ≡ true) × (bit u b ≡ true)
-of-and v u b e = and-true (bit v b) (bit u b) (sym (bit-and v u b) ∙ e)
 
 -- a bit of v is one of u, or one of v without u
 pub with-or-without : (n v u b : ℕ) → b < n → u < 2 ^ n → bit v b ≡ true → (bit u b ≡ true) ⊎ (bit (bitAnd v (2 ^ n - 1 - u)) b ≡ true)
