@@ -32,6 +32,8 @@ python3 tests/doubtful.py || exit 1
 wait "$archive" || { cat "$work/archive"; exit 1; }
 tail -n 1 "$work/archive"
 python3 tests/solve.py || exit 1
+python3 tests/check.py || exit 1
+python3 tests/brute.py || exit 1
 python3 tests/examples.py || exit 1
 python3 tests/interface.py || exit 1
 

@@ -1,6 +1,6 @@
-# The examples: each is a text, the problem file it is packed into, and the lines that the program prints for it. Checked are the packing, the answer of the
-# program and of the second solver, the round trip through `show`, that a solution meets every constraint of its text, and what the texts say of changes to
-# them; also the example of docs/TEXT.md. How a search ends and at which node stands here by hand, as each text explains it.
+# The examples: each is a text, the problem file it is packed into, and the lines that the program prints for it; or a template set. Checked are the packing, the
+# answer of the program and of the second solver, the round trip through `show`, that a solution meets every constraint of its text, what the texts say of changes
+# to them, and the verdicts on the sets; also the examples of docs/TEXT.md. How a search ends and at which node stands here by hand, as each text explains it.
 #     python3 tests/examples.py            after `rt check clash rule`; it builds the second solver with cargo
 #     python3 tests/examples.py --write    lays out the problem files, not the answers
 import subprocess
@@ -17,8 +17,10 @@ PROGRAMS = [PROGRAM, PROGRAM.with_name("rule")]
 CARGO = ROOT / "target" / "cargo"
 sys.path.insert(0, str(ROOT / "tools"))
 import packing
+import sets
 import textform
 import wording
+from checking import report
 
 # name: the first line of its answer, some values of its solution
 EXAMPLES = {
@@ -36,6 +38,11 @@ EXAMPLES = {
     "suffix": ("found 8", {"name": "aaaa-000", "signer": "aaaa", "counter": "-000", "tag": "", "place": 9}),
 }
 CUT = {"broken": 1024}  # bytes of the packed file that the problem file has
+# name of a set: for each question that clashes, the two choices of parts
+SETS = {
+    "lessons": {("video", "plain"): ["aa / aa -hd- 000 .ts", "aa / aa-hd - 000 .ts"]},
+    "mended": {},
+}
 
 
 def path(name, ending):
@@ -210,18 +217,41 @@ def relation_faults(solvers):
                 yield f"{what}: {solver.name} does not print {answer.splitlines()[0]}"
 
 
+def set_faults(name):
+    """The verdicts on a set."""
+    found = sets.checked(path(name, "set").name, path(name, "set").read_bytes(), twice=True)
+    for question in found["questions"]:
+        pieces = [" ".join(piece["text"] for piece in derivation) for derivation in question.get("derivations", [])]
+        verdict = "clash" if pieces else "never"
+        if question["verdict"] != verdict or pieces != SETS[name].get(tuple(question["templates"]), []):
+            yield f"{name}.set: {report.title(question)} is {question['verdict']}, with {pieces}"
+
+
+def blocks_of(text):
+    """What stands indented in a document, block by block."""
+    shown = "".join(line if line.startswith("    ") or not line.strip() else "\0" for line in text.splitlines(True))
+    return [textwrap.dedent(block).strip("\n") + "\n" for block in shown.split("\0") if block.strip()]
+
+
 def document_faults(solvers):
-    """The text of docs/TEXT.md and its answer in words; and its other statements are statements."""
-    shown = "".join(line if line.startswith("    ") or not line.strip() else "\0" for line in (ROOT / "docs" / "TEXT.md").read_text().splitlines(True))
-    blocks = [textwrap.dedent(block).strip("\n") + "\n" for block in shown.split("\0") if block.strip()]
+    """The text of docs/TEXT.md and its answer in words; and its other statements are statements. The same of its set."""
+    problems, template_sets = (ROOT / "docs" / "TEXT.md").read_text().split("\n# Template sets\n")
+    blocks = blocks_of(problems)
     whole, said = (next(block for block in blocks if block.startswith(beginning)) for beginning in ("# Can", "found:"))
     problem = textform.read("docs/TEXT.md", whole.encode())
     for solver in solvers:
         if wording.answer(problem, printed(solver, packing.pack(problem))) != said:
             yield f"docs/TEXT.md has another answer than {solver.name}"
-    rest = "".join(block for block in blocks if block.split()[0] in textform.STATEMENTS)
+    rest = "".join(block for block in blocks if block.split()[0] in textform.Reader.words)
     if len(textform.read("the statements of docs/TEXT.md", rest.encode()).strings) < 2:
         yield "docs/TEXT.md has no statements"
+    blocks = blocks_of(template_sets)
+    whole, said = (next(block for block in blocks if block.startswith(beginning)) for beginning in ("# The templates", "video and plain"))
+    if said not in "".join(line + "\n" for line in report.lines(sets.checked("docs/TEXT.md", whole.encode()))):
+        yield "docs/TEXT.md has another clash than its set"
+    rest = "".join(block for block in blocks if block.split()[0] in ("part", "rule", "template", "same"))
+    if len(sets.checked("the statements of docs/TEXT.md", f"{whole.splitlines()[1]}\n{rest}".encode(), twice=True)["questions"]) != 1:
+        yield "docs/TEXT.md has no template by itself"
 
 
 def faults(solvers):
@@ -229,6 +259,8 @@ def faults(solvers):
         for name in EXAMPLES:
             yield from packing_faults(name)
             yield from answer_faults(name, solvers)
+        for name in SETS:
+            yield from set_faults(name)
         yield from relation_faults(solvers)
         yield from document_faults(solvers)
     except textform.Wrong as error:
@@ -240,7 +272,7 @@ def main():
         for name in EXAMPLES:
             path(name, "problem").write_bytes(file_of(name))
         return 0
-    expected = {path(name, ending) for name in EXAMPLES for ending in ("text", "problem", "answer")}
+    expected = {path(name, ending) for name in EXAMPLES for ending in ("text", "problem", "answer")} | {path(name, "set") for name in SETS}
     present = set(FOLDER.iterdir())
     wrong = [f"{file.name} is not there" for file in sorted(expected - present)] + [f"{file.name} is of no example" for file in sorted(present - expected)]
     wrong += [f"target/bin/{path.name} is not there: run `rt check {path.name}` first" for path in PROGRAMS if not path.is_file()]
@@ -250,7 +282,7 @@ def main():
     for line in wrong:
         print("examples: " + line)
     if not wrong:
-        print(f"examples: {len(EXAMPLES)} texts, files and answers fit; answered by " + " and ".join(solver.name for solver in solvers))
+        print(f"examples: {len(EXAMPLES)} texts, files and answers and {len(SETS)} sets fit; answered by " + " and ".join(solver.name for solver in solvers))
     return 1 if wrong else 0
 
 

@@ -303,7 +303,7 @@ def translations():
     wrong = []
     for letters, written, expected in PATTERNS:
         line = Line("text", 1, written)
-        wrong += [] if patterns.translated(line, line.rest(), letters.index) == expected else [f"{written!r} is not put into the library's letters"]
+        wrong += [] if patterns.translated(line, line.rest(), lambda letter, _: letters.index(letter)) == expected else [f"{written!r} is not put into the library's letters"]
     return wrong
 
 

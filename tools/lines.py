@@ -1,5 +1,5 @@
 # One line of a text: its words, commas and quoted texts, and the names, numbers and letters among them.
-# It knows no statement; textform.py does.
+# It knows no statement; statements.py, textform.py and checking/setform.py do.
 import re
 from string import ascii_lowercase, ascii_uppercase, digits
 from typing import NamedTuple
@@ -14,42 +14,54 @@ TOKEN = re.compile(r'\s*(?:(#.*)|"((?:[^"\\]|\\.)*)"|(,|[^\s#,"]+))')
 class Wrong(Exception):
     """What is wrong with a line, and what was expected."""
 
-    def __init__(self, path, line, message):
-        super().__init__(f"{path}:{line}: {message}")
+    def __init__(self, path, line, message, column=None):
+        place = line if column is None else f"{line}:{column}"
+        super().__init__(f"{path}:{place}: {message}")
 
 
 class Token(NamedTuple):
     text: str
     quoted: bool
+    column: int  # of its first character, or of its quote, from 1
 
     def __str__(self):
         return f'"{self.text}"' if self.quoted else f"'{self.text}'"
 
 
 class Line:
-    """The tokens of one line, taken from left to right."""
+    """The tokens of one line, taken from left to right. With columns, an error names the column too."""
 
-    def __init__(self, path, number, text):
-        self.path, self.number, self.tokens, self.next = path, number, [], 0
-        place, text = 0, text.rstrip()
+    def __init__(self, path, number, text, columns=False):
+        self.path, self.number, self.tokens, self.next, self.columns = path, number, [], 0, columns
+        place, self.end_of_tokens, text = 0, 0, text.rstrip()
         while place < len(text):
             match = TOKEN.match(text, place)
             if not match:
-                raise self.wrong("a quote is not closed: expected another \"")
+                raise self.wrong("a quote is not closed: expected another \"", text.index('"', place) + 1)
             place = match.end()
             _, quoted, word = match.groups()
             if quoted is not None:
-                self.tokens.append(Token(self.unescaped(quoted), True))
+                self.tokens.append(Token(self.unescaped(quoted, match.start(2)), True, match.start(2)))
             elif word:
-                self.tokens.append(Token(word, False))
+                self.tokens.append(Token(word, False, match.start(3) + 1))
+            if quoted is not None or word:
+                self.end_of_tokens = place
 
-    def wrong(self, message):
-        return Wrong(self.path, self.number, message)
+    def wrong(self, message, column=None):
+        """An error at this column, or at the token that was taken last."""
+        if column is None:
+            column = self.tokens[self.next - 1].column if self.next else 1
+        return Wrong(self.path, self.number, message, column if self.columns else None)
 
-    def unescaped(self, quoted):
-        for escape in re.findall(r"\\.", quoted):
-            if escape[1] not in '"\\':
-                raise self.wrong(f"{escape} stands for nothing: expected \\\" or \\\\ in a quoted text")
+    def unexpected(self, expected):
+        """An error at the token that comes next."""
+        column = self.tokens[self.next].column if self.more() else self.end_of_tokens + 1
+        return self.wrong(f"expected {expected}, found {self.seen()}", column)
+
+    def unescaped(self, quoted, start):
+        for escape in re.finditer(r"\\.", quoted):
+            if escape[0][1] not in '"\\':
+                raise self.wrong(f"{escape[0]} stands for nothing: expected \\\" or \\\\ in a quoted text", start + escape.start() + 1)
         return re.sub(r"\\(.)", r"\1", quoted)
 
     def more(self):
@@ -59,7 +71,7 @@ class Line:
         return str(self.tokens[self.next]) if self.more() else "the end of the line"
 
     def sees(self, word):
-        return self.tokens[self.next : self.next + 1] == [(word, False)]
+        return self.more() and self.tokens[self.next][:2] == (word, False)
 
     def took(self, word):
         """Takes this bare word, if it is the next token."""
@@ -69,7 +81,7 @@ class Line:
 
     def take(self, expected):
         if not self.more():
-            raise self.wrong(f"expected {expected}, found the end of the line")
+            raise self.unexpected(expected)
         self.next += 1
         return self.tokens[self.next - 1]
 
@@ -80,7 +92,7 @@ class Line:
 
     def end(self):
         if self.more():
-            raise self.wrong(f"expected the end of the line, found {self.seen()}")
+            raise self.unexpected("the end of the line")
 
     def name(self, what):
         token = self.take(f"the name of {what}")
@@ -108,13 +120,13 @@ class Line:
                 return word
 
     def letters(self):
-        """Letters, ranges and quoted letters, up to a comma, `to` or the end."""
-        letters = ""
-        while self.more() and not self.sees(",") and not self.sees("to"):
+        """Letters, ranges and quoted letters, up to a comma, `to`, `obeys` or the end, each with the column of its token."""
+        letters = []
+        while self.more() and not any(self.sees(word) for word in (",", "to", "obeys")):
             token = self.take("letters")
-            letters += token.text if token.quoted or len(token.text) == 1 else self.range(token)
+            letters += [(letter, token.column) for letter in (token.text if token.quoted or len(token.text) == 1 else self.range(token))]
         if not letters:
-            raise self.wrong(f"expected letters, found {self.seen()}")
+            raise self.unexpected("letters")
         return letters
 
     def range(self, token):

@@ -4,6 +4,7 @@
 from dataclasses import dataclass
 from itertools import chain
 from string import ascii_lowercase, ascii_uppercase, digits
+from struct import pack as pack_words
 
 LIMIT = 64  # one more than the greatest length, place and value
 EVERY = 2**LIMIT - 1  # the word of every length, or every value
@@ -77,8 +78,8 @@ def repeats(kind, arguments):
 
 
 def pack(problem):
-    words = chain(*problem.strings.values(), problem.numbers.values())
-    table = b"".join(word.to_bytes(8, "little") for word in words)
+    words = [*chain(*problem.strings.values()), *problem.numbers.values()]
+    table = pack_words(f"<{len(words)}Q", *words)
     constraints = b"".join(bytes([kind, *positions]).ljust(4, b"\0") for kind, positions in problem.constraints)
     automata = b"".join(
         bytes([len(a.states)]) + a.accepting.to_bytes(4, "little") + bytes(chain(*a.moves)) for a in problem.automata.values()

@@ -20,25 +20,44 @@ def ranges(tokens):
     return [written for token in tokens if not token.quoted for written in RANGE.findall(token.text)]
 
 
+def refuse_ranges(line, tokens):
+    """Raises Wrong where something is written like a range, for an alphabet that has no dot."""
+    for token in tokens:
+        match = None if token.quoted else RANGE.search(token.text)
+        if match:
+            raise line.wrong(f"a pattern has no ranges: expected each letter by itself, as in (a|b|c), found '{match[0]}'", token.column + match.start())
+
+
+def columns(tokens):
+    """The column of each letter and sign of a pattern; in quotes it is that of the quote."""
+    return [token.column + (0 if token.quoted else i) for token in tokens for i in range(len(token.text))]
+
+
 def translated(line, tokens, symbol):
-    """The tokens of a line as a pattern in the library's letters; `symbol` answers for each letter of the text. Raises Wrong."""
-    signs = "".join(sign if sign in SIGNS and not token.quoted else letter(line, token, sign, symbol) for token in tokens for sign in token.text)
+    """The tokens of a line as a pattern in the library's letters; `symbol` answers for each letter of the text and its column. Raises Wrong."""
+    written = [(token, sign) for token in tokens for sign in token.text]
+    signs = "".join(
+        sign if sign in SIGNS and not token.quoted else letter(line, token, sign, column, symbol) for (token, sign), column in zip(written, columns(tokens))
+    )
     if len(signs) > LONGEST:
-        raise line.wrong(f"the pattern has {len(signs)} letters and signs: expected {LONGEST} at most")
+        raise line.wrong(f"the pattern has {len(signs)} letters and signs: expected {LONGEST} at most", columns(tokens)[LONGEST])
     return signs
 
 
-def letter(line, token, written, symbol):
+def letter(line, token, written, column, symbol):
     """The library's letter for one of the text's. Raises Wrong."""
     if written in SIGNS:
-        raise line.wrong(f"'{written}' is a sign of patterns, and no pattern can name it as a letter: expected an automaton by moves for such a rule")
+        raise line.wrong(
+            f"'{written}' is a sign of patterns, and no pattern can name it as a letter: expected an automaton by moves for such a rule", column
+        )
     if written == "," and not token.quoted:
-        raise line.wrong("expected letters, | * ( and ), found ',': a comma that is a letter stands in quotes")
-    position = symbol(written)
+        raise line.wrong("expected letters, | * ( and ), found ',': a comma that is a letter stands in quotes", column)
+    position = symbol(written, column)
     if position >= len(LETTERS):
         raise line.wrong(
             f"'{written}' is letter {position + 1} of the alphabet, and no pattern can name it: expected the letters of rules among the first {len(LETTERS)}, "
-            "or an automaton by moves"
+            "or an automaton by moves",
+            column,
         )
     return LETTERS[position]
 
@@ -56,15 +75,18 @@ def output(k, text):
     return done.stdout
 
 
-def automaton(line, k, text):
-    """The automaton of a pattern in the library's letters, over k symbols. Raises Wrong where it is refused, Failed where there is no whole answer."""
+def automaton(line, k, text, columns):
+    """The automaton of a pattern in the library's letters, over k symbols; the columns are those of its letters and signs. Raises Wrong where it is refused,
+    Failed where there is no whole answer."""
     printed = output(k, text)
     if printed == bytes([BROKEN]):
-        raise line.wrong(mistake(text))
+        place, message = mistake(text)
+        raise line.wrong(message, columns[place - 1])
     if printed == bytes([LARGE]):
         raise line.wrong(
             f"the pattern needs more than {MOST['states']} states: expected fewer letters in it, since most take a state of their own, "
-            "or an automaton by moves, where letters can share one"
+            "or an automaton by moves, where letters can share one",
+            columns[0],
         )
     if not printed:
         raise Failed(f"the output of {PROGRAM}: it is empty: the program has not answered")
@@ -77,20 +99,20 @@ def automaton(line, k, text):
 
 
 def mistake(text):
-    """What breaks a pattern that the program refuses, with its place among the letters and signs. The program says only that something does."""
+    """The place among the letters and signs, and what is wrong there, of a pattern that the program refuses. The program says only that something is."""
     opened, before = [], "("  # the places of groups that are not closed; what stands before, and a pattern begins as a group does
     for place, sign in enumerate(text, 1):
         if sign == "*" and before in "(|":
-            return f"the '*' at place {place} of the pattern has nothing before it: expected a letter or a group that it repeats"
+            return place, f"the '*' at place {place} of the pattern has nothing before it: expected a letter or a group that it repeats"
         if sign == "*" and before == "*":
-            return f"the '*' at place {place} of the pattern follows another: expected one at most behind a letter or a group"
+            return place, f"the '*' at place {place} of the pattern follows another: expected one at most behind a letter or a group"
         if sign == ")" and not opened:
-            return f"the ')' at place {place} of the pattern closes nothing: expected a '(' before it"
+            return place, f"the ')' at place {place} of the pattern closes nothing: expected a '(' before it"
         if sign == "(":
             opened.append(place)
         if sign == ")":
             opened.pop()
         before = sign
     if opened:
-        return f"the '(' at place {opened[-1]} of the pattern is not closed: expected a ')' behind it"
-    return "this is no pattern: expected letters and groups in ( and ), with | between branches and one * at most behind a letter or a group"
+        return opened[-1], f"the '(' at place {opened[-1]} of the pattern is not closed: expected a ')' behind it"
+    return 1, "this is no pattern: expected letters and groups in ( and ), with | between branches and one * at most behind a letter or a group"

@@ -5,11 +5,7 @@
 #     python3 tools/problem.py answer TEXT                  reads the program's answer from standard input and shows it in words
 # The exit status of `solve` and `answer` is 0 for none alone: 1 found, 2 spent, 3 refused. For every command it is 3 for a broken text or a refused file, and 4
 # if something could not be read, run or written; `pack` and `show` end with 0 else. Errors and warnings go to standard error.
-import argparse
-import os
-import re
 import sys
-import traceback
 from pathlib import Path
 
 import doubts
@@ -18,35 +14,12 @@ import solving
 import templates
 import textform
 import wording
+from command import BROKEN, Parser, budget, complain, run, said
 from solving import STATUS, Failed
-
-BROKEN, TROUBLE = STATUS["refused"], 4
 
 
 def text_of(path):
     return textform.read_text(path, Path(path).read_bytes())
-
-
-def written(content, descriptor=1):
-    """All of the bytes, unbuffered: what cannot be written shows here and not when Python ends. Bytes, so that a letter beyond ASCII is UTF-8 everywhere."""
-    while content:
-        content = content[os.write(descriptor, content) :]
-
-
-def said(content):
-    """What is said on standard output."""
-    try:
-        written(content)
-    except OSError as error:
-        raise Failed(f"standard output: {error.strerror}") from None
-
-
-def complain(message):
-    """A line on standard error. That nobody can read it changes nothing."""
-    try:
-        written(f"{message}\n".encode(errors="backslashreplace"), 2)
-    except OSError:
-        pass
 
 
 def warn(options, text):
@@ -101,25 +74,12 @@ def solve(options):
     text = text_of(options.text)
     warn(options, text)
     solver = solving.solver(options.program, options.budget)
-    status = answered(text.problem, solving.output(solver, text.problem))
+    status = answered(text.problem, solving.output(solver, packing.pack(text.problem)))
     if status == STATUS["none"]:
         brief = solving.solver(options.program, options.budget and min(options.budget, solving.BUDGET))
         for line, remark in templates.remarks(text, lambda problem: solving.outcome(brief, problem) == "none"):
             complain(f"{options.text}:{line}: {remark}")
     return status
-
-
-def budget(word):
-    if not re.fullmatch("[0-9]{1,10}", word) or int(word) > solving.MOST_BUDGET:
-        raise argparse.ArgumentTypeError(f"'{word}' is no budget: expected 0 to {solving.MOST_BUDGET} nodes")
-    return int(word)
-
-
-class Parser(argparse.ArgumentParser):
-    def error(self, message):
-        """Python's own status for a wrong call is 2, which means spent here."""
-        complain(f"{self.format_usage()}{self.prog}: {message}")
-        raise SystemExit(TROUBLE)
 
 
 def arguments():
@@ -144,22 +104,5 @@ def arguments():
     return parser.parse_args()
 
 
-def main():
-    options = arguments()
-    try:
-        return options.run(options)
-    except textform.Wrong as wrong:
-        complain(wrong)
-        return BROKEN
-    except Failed as failed:
-        complain(failed)
-    except OSError as error:
-        complain(f"{error.filename}: {error.strerror}")
-    except Exception:
-        # Python's own status for a fault of this tool is 1, which means found here.
-        complain(traceback.format_exc().rstrip())
-    return TROUBLE
-
-
 if __name__ == "__main__":
-    sys.exit(main())
+    sys.exit(run(arguments()))

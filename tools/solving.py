@@ -65,25 +65,31 @@ def run(command, given, errors=None):
         raise Failed(f"{command[0]} cannot be run: {error.strerror}") from None
 
 
-def output(asked, problem):
-    """What a solver prints for a problem, its first line looked at. Raises Failed."""
-    done = run(asked.command, packing.pack(problem))
+def output(asked, content):
+    """What a solver prints for a problem file, looked at. Raises Failed."""
+    done = run(asked.command, content)
     program = asked.command[0]
     if done.returncode < 0:
         raise Failed(f"{program} was ended by signal {-done.returncode}")
     printed = done.stdout.decode("ascii", "replace")
-    try:
-        word, count = wording.outcome(printed)
-    except wording.Unfit as unfit:
-        raise Failed(f"the output of {program}: {unfit}") from None
+    word = looked_at(printed, f"the output of {program}", asked.budget)
     # The program ends with 0 always, the one over the archive with the status of its outcome.
     if done.returncode not in (0, STATUS[word]):
         raise Failed(f"{program} ended with status {done.returncode}, but printed '{word}'")
-    if word == "spent" and count != asked.budget or word in ("found", "none") and count > asked.budget:
-        raise Failed(f"the output of {program}: '{word} {count}' is no answer within a budget of {asked.budget} nodes")
     return printed
+
+
+def looked_at(printed, source, budget):
+    """The word that an output begins with; its source is named in errors. Raises Failed where it is no answer within the budget."""
+    try:
+        word, count = wording.outcome(printed)
+    except wording.Unfit as unfit:
+        raise Failed(f"{source}: {unfit}") from None
+    if word == "spent" and count != budget or word in ("found", "none") and count > budget:
+        raise Failed(f"{source}: '{word} {count}' is no answer within a budget of {budget} nodes")
+    return word
 
 
 def outcome(asked, problem):
     """Found, none, spent or refused, as a word. Raises Failed."""
-    return wording.outcome(output(asked, problem))[0]
+    return wording.outcome(output(asked, packing.pack(problem)))[0]

@@ -7,17 +7,17 @@ use Prim.Native.Nat.{ℕ, _+_, _-_, _*_, _^_, _≤_, _<_}
 use native.Mathlib.Nat.{eq-or-lt-of-le, pos-of-ne-zero}
 use native.Mathlib.Omega.{arith}
 use lib.Bits.{bitAnd, bitOr, or-lt, and-le-l}
-use lib.Dec.{eqb, ltb}
-use lib.ListN.{length, set, drop, length-set, length-replicate, getD-replicate, replicate, List·getD-eq-default}
+use lib.Dec.{eqb}
+use lib.ListN.{length, set, drop, length-set, length-replicate, replicate}
 use lib.Seq.{getD-set-same, getD-set-other}
-use borrow.Author.Tests.{eqb-true, eqb-false, ltb-true, ltb-false}
+use borrow.Author.Tests.{eqb-true, eqb-false}
 use Rattle.model.specs.Words.{bit, word, noneFrom}
 use Rattle.model.specs.Constraints.{Automaton, move}
-use Rattle.laws.proofs.ListLaws.{and-true, true-and}
+use Rattle.laws.proofs.ListLaws.{true-and, getD-zeros}
 use Rattle.laws.proofs.ReadingLaws.{pieces-length}
 use Rattle.laws.proofs.WordLaws.{in-bits, noneFrom-bits, noneFrom-within, pow-self, pow-only, or-bit-left, or-bit-right, of-or-bit}
 use Rattle.laws.proofs.WordLaws.{bit-high, bit-sub, sub-within}
-use Rattle.laws.proofs.ShiftLaws.{bit-and, without-bit}
+use Rattle.laws.proofs.ShiftLaws.{and-bit, of-and-bit, without-bit}
 use Rattle.words.specs.Ends.{Lowest}
 use Rattle.automata.specs.Machine.{stateCount, machine}
 use Rattle.automata.specs.Walk.{Held, Starts}
@@ -210,12 +210,8 @@ pub finding-start : (k : ℕ) (bs : List ℕ) → Finding k bs 0 (replicate 512 
 finding-start k bs = record {
   size = length-replicate {A = ℕ} 512 0;
   each = λ j r l t. absurd (omega arith);
-  blank = λ n l. go n (ltb n 512) refl;
+  blank = λ n l. getD-zeros 512 n;
 }
-  where
-    go : (n : ℕ) (t : Bool) → ltb n 512 ≡ t → word (replicate 512 0) n ≡ 0
-    go n true q = getD-replicate 512 n 0 0 (ltb-true n 512 q)
-    go n false q = List·getD-eq-default (replicate 512 0) 0 (subst (λ (m : ℕ). m ≤ n) (sym (length-replicate {A = ℕ} 512 0)) (ltb-false n 512 q))
 
 -- ---- the symbols of some kinds
 
@@ -258,7 +254,7 @@ module _ (ks : List ℕ) (at w rest r a o : ℕ) (fits : w < 2 ^ 64) (low : Lowe
   }
     where
       of-without : (b : ℕ) → bit (bitAnd rest (2 ^ 64 - 1 - taken)) b ≡ true → bit rest b ≡ true
-      of-without b y = and-true (bit rest b) (bit (2 ^ 64 - 1 - taken) b) (sym (bit-and rest (2 ^ 64 - 1 - taken) b) ∙ y) .0
+      of-without b y = of-and-bit rest (2 ^ 64 - 1 - taken) b y .0
 
       go : (b : ℕ) → bit rest b ≡ true → (t : Bool) → bit taken b ≡ t
           → ((c : ℕ) × (bit (bitOr o r) c ≡ true) × (bit (bitOr (word ks (at + c)) (2 ^ c)) b ≡ true)) ⊎ (bit (bitAnd rest (2 ^ 64 - 1 - taken)) b ≡ true)
@@ -315,7 +311,7 @@ module _ (D : Automaton) (q k : ℕ) (ks : List ℕ) (at w r : ℕ) (most : k �
   firsts-steps from into symbols states all x whole = record {
     by = record {
       sound = λ b y.
-          let t = and-true (bit w b) (bit all b) (sym (bit-and w all b) ∙ y) in
+          let t = of-and-bit w all b y in
           let u = whole .sound b (t .1) in
           let v = x .by .sound (u .0) (u .2 .0) in
           let m = v .2 .2 in
@@ -330,7 +326,7 @@ module _ (D : Automaton) (q k : ℕ) (ks : List ℕ) (at w r : ℕ) (most : k �
           let a = asked-known b y in
           let z = x .by .complete (asked b y) (asked b y) a (refl, g .each b y .1, (m .0, m .1, m .2, ap (bit into) e ∙ m .3)) in
           subst (λ (i : ℕ). bit (bitAnd w all) i ≡ true) (u .0)
-          (bit-and w all b ∙ true-and y (whole .complete b (asked b y) (omega arith) (z, asked-kind b y .0)));
+          (and-bit w all b y (whole .complete b (asked b y) (omega arith) (z, asked-kind b y .0)));
     };
     of = record {
       sound = λ t b. let u = x .of .sound t b in let m = u .2 .2 in (u .0, u .1, (u .2 .0, u .2 .1, (m .0, m .1, g .within (m .0) (m .2), m .3)));

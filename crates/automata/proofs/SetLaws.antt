@@ -9,22 +9,15 @@ use lib.Dec.{eqb}
 use borrow.Author.Tests.{eqb-true}
 use Rattle.model.specs.Words.{bit}
 use Rattle.model.specs.Constraints.{Automaton, move}
-use Rattle.laws.proofs.ListLaws.{and-true, true-and}
+use Rattle.laws.proofs.ListLaws.{true-and}
 use Rattle.laws.proofs.WordLaws.{zero-bit, pow-self, pow-only, or-bit-left, or-bit-right, of-or-bit, bit-high, bit-sub, sub-within}
-use Rattle.laws.proofs.ShiftLaws.{bit-and}
+use Rattle.laws.proofs.ShiftLaws.{and-bit, of-and-bit}
 use Rattle.words.specs.Ends.{Lowest}
 use Rattle.automata.specs.StateSets.{Gathered, Found, LowBits, Moves, Enters, Successors}
 
 -- a word that is 0 has no bit
 pub no-bit : (w i : ℕ) → w ≡ 0 → bit w i ≡ true → ⊥
 no-bit w i e b = false≢true (sym (zero-bit i) ∙ ap (λ (v : ℕ). bit v i) (sym e) ∙ b)
-
--- the bits of two words that both have
-pub and-both : (v u b : ℕ) → bit v b ≡ true → bit u b ≡ true → bit (bitAnd v u) b ≡ true
-and-both v u b x y = bit-and v u b ∙ true-and x y
-
-pub of-and : (v u b : ℕ) → bit (bitAnd v u) b ≡ true → (bit v b ≡ true) × (bit u b ≡ true)
-of-and v u b e = and-true (bit v b) (bit u b) (sym (bit-and v u b) ∙ e)
 
 module _ (E : ℕ → ℕ → Type 0) where
   -- nothing is given at all
@@ -36,8 +29,8 @@ module _ (E : ℕ → ℕ → Type 0) where
 -- the bits of w below n, by a word m that has all bits below n and no other
 pub low-common : (n w m : ℕ) → ((j : ℕ) → bit m j ≡ true → j < n) × ((j : ℕ) → j < n → bit m j ≡ true) → LowBits n w (bitAnd w m)
 low-common n w m below = record {
-  sound = λ i h. let t = of-and w m i h in (below .0 i (t .1), t .0);
-  complete = λ i l h. and-both w m i h (below .1 i l);
+  sound = λ i h. let t = of-and-bit w m i h in (below .0 i (t .1), t .0);
+  complete = λ i l h. and-bit w m i h (below .1 i l);
 }
 
 -- a word of 64 bits has none at 64 or above

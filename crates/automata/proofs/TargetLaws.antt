@@ -15,13 +15,13 @@ use Rattle.model.specs.Words.{bit, word, noneFrom}
 use Rattle.model.specs.Constraints.{Automaton, move}
 use Rattle.laws.specs.Inclusion.{Within}
 use Rattle.laws.proofs.WordLaws.{in-bits, noneFrom-bits, or-bit-left, or-bit-right, of-or-bit, bit-high}
-use Rattle.laws.proofs.ShiftLaws.{bit-flip, bit-mask}
+use Rattle.laws.proofs.ShiftLaws.{and-bit, of-and-bit, bit-flip, bit-mask}
 use Rattle.words.specs.Ends.{Lowest}
 use Rattle.words.proofs.EndLaws.{lowest-trailing}
 use Rattle.automata.specs.Machine.{stateCount, machine, Whole}
 use Rattle.automata.specs.StateSets.{Gathered, Moves, Enters, Successors, By, Added, Steps, Targets, Forgotten}
 use Rattle.automata.proofs.MachineLaws.{move-known}
-use Rattle.automata.proofs.SetLaws.{no-bit, and-both, of-and, Walked, walked-step, walked-skip, walked-one, ByState, ByEntering}
+use Rattle.automata.proofs.SetLaws.{no-bit, Walked, walked-step, walked-skip, walked-one, ByState, ByEntering}
 
 -- ---- words without others
 
@@ -31,7 +31,7 @@ with-or-without n v u b h l x = go (bit u b) refl
   where
     go : (t : Bool) → bit u b ≡ t → (bit u b ≡ true) ⊎ (bit (bitAnd v (2 ^ n - 1 - u)) b ≡ true)
     go true e = inl e
-    go false e = inr (and-both v (2 ^ n - 1 - u) b x (bit-flip n u b l h ∙ ap not e))
+    go false e = inr (and-bit v (2 ^ n - 1 - u) b x (bit-flip n u b l h ∙ ap not e))
 
 some-of : (w : ℕ) → w < 2 ^ 64 → w ≢ 0 → (b : ℕ) × (bit w b ≡ true)
 some-of w h d = (trailingZeros 64 w, lowest-trailing w (omega arith) h .here)
@@ -111,14 +111,14 @@ module _ (D : Automaton) (k p into symbols found : ℕ) where
     }
       where
         never : (a : ℕ) → a < k → bit symbols a ≡ true → bit into (move D p a) ≡ true → ⊥
-        never a l x y = no-bit (bitAnd to into) (move D p a) z (and-both to into (move D p a) (to-there a l x) y)
+        never a l x y = no-bit (bitAnd to into) (move D p a) z (and-bit to into (move D p a) (to-there a l x) y)
 
     module _ (small : into < 2 ^ 32) (some : bitAnd to into ≢ 0) where
       to-enters : Enters D k p into symbols true
       to-enters =
           let h = and-le-r to into in
           let b = some-of (bitAnd to into) (omega arith) some in
-          let t = of-and to into (b .0) (b .1) in
+          let t = of-and-bit to into (b .0) (b .1) in
           let y = m .sound (b .0) (t .0) in
           record { sound = λ e. (y .0, y .1, (y .2 .0, ap (bit into) (y .2 .1) ∙ t .1)); complete = λ a l x. refl }
 
@@ -140,7 +140,7 @@ module _ (D : Automaton) (k p into symbols found : ℕ) where
     of-new a y =
         let t = g .sound a y in
         subst (λ (i : ℕ). (i < k) × (bit symbols i ≡ true) × (bit into (move D p i) ≡ true)) (t .2 .0)
-        (t .1, of-and symbols (2 ^ 64 - 1 - found) (t .0) (t .2 .1) .0, t .2 .2)
+        (t .1, of-and-bit symbols (2 ^ 64 - 1 - found) (t .0) (t .2 .1) .0, t .2 .2)
 
     in-new : (a : ℕ) → a < k → bit symbols a ≡ true → bit into (move D p a) ≡ true → (bit found a ≡ true) ⊎ (bit new a ≡ true)
     in-new a l x y = ⊎-elim inl (λ z. inr (g .complete a a l (refl, z, y))) (with-or-without 64 symbols found a (bit-high symbols 64 a fs x) ff x)

@@ -18,11 +18,11 @@ use Rattle.model.specs.Support.{narrowed}
 use Rattle.rows.specs.Rows.{alone, joined, trimmed}
 use Rattle.rows.specs.Parts.{Window}
 use Rattle.rows.proofs.TrimLaws.{trimmed-supports}
-use Rattle.rows.proofs.MeetLaws.{and-bit, of-and-bit, joined-or}
+use Rattle.rows.proofs.MeetLaws.{joined-or}
 use Rattle.rows.proofs.Windows.{take-supports, drop-supports}
 use Rattle.laws.specs.Supported.{InRow, Supports}
 use Rattle.laws.proofs.ListLaws.{same-true, same-refl}
-use Rattle.laws.proofs.ShiftLaws.{bit-shr, of-shifted, in-shifted}
+use Rattle.laws.proofs.ShiftLaws.{and-bit, of-and-bit, bit-shr, of-shifted, in-shifted}
 use Rattle.laws.proofs.RowLaws.{short-of}
 use Rattle.laws.proofs.Supports.{orWords, moved-support, none-support, either-support}
 use Rattle.laws.proofs.WordLaws.{zero-bit, and-yes, bit-sub}

@@ -17,13 +17,13 @@ use Rattle.model.specs.Domains.{row}
 use Rattle.words.specs.Ends.{Highest, Lowest}
 use Rattle.rows.specs.Rows.{joined}
 use Rattle.rows.proofs.Fill.{tabulated-length, tabulated-word}
-use Rattle.rows.proofs.MeetLaws.{of-and-bit, joined-or}
+use Rattle.rows.proofs.MeetLaws.{joined-or}
 use Rattle.laws.proofs.DomainLaws.{row-length}
 use Rattle.laws.proofs.WordLaws.{within-antisym, of-or-bit, or-bit-left, or-bit-right, sub-within}
 use Rattle.laws.proofs.Supports.{orWords, orWords-length, orWords-word}
 use Rattle.inplace.specs.InTable.{both, Meets}
 use Rattle.inplace.proofs.Tables.{row-first, highest-most, same-row}
-use Rattle.laws.proofs.ShiftLaws.{bit-shr}
+use Rattle.laws.proofs.ShiftLaws.{of-and-bit, bit-shr}
 use Rattle.cat.specs.Splits.{Three, Split, Supported}
 use Rattle.cat.specs.Strings.{Strings}
 use Rattle.cat.specs.Gathering.{Added, Lengthened, Gathered, Advanced}

@@ -17,10 +17,9 @@ use Rattle.words.specs.Ends.{Highest}
 use Rattle.rows.specs.Rows.{trimmed}
 use Rattle.rows.specs.Parts.{Cut, Window}
 use Rattle.rows.proofs.TrimLaws.{short, trimmed-bit}
-use Rattle.rows.proofs.MeetLaws.{of-and-bit}
 use Rattle.laws.proofs.DomainLaws.{row-length, row-words, row-past}
 use Rattle.laws.proofs.WordLaws.{pow-self, pow-only, zero-bit, no-bits, word-ext}
-use Rattle.laws.proofs.ShiftLaws.{bit-shr, of-shifted, in-shifted}
+use Rattle.laws.proofs.ShiftLaws.{of-and-bit, bit-shr, of-shifted, in-shifted}
 use Rattle.cat.proofs.CatLaws.{lengths-at, none-supported}
 use Rattle.laws.proofs.ListLaws.{or-false, or-true}
 use Rattle.inplace.proofs.Reach.{Reach, same-bit, of-short, empty-none, reach-none, reach-right, reach-tidy}

@@ -17,10 +17,9 @@ use Rattle.rows.specs.Rows.{alone, trimmed}
 use Rattle.rows.specs.Parts.{Window}
 use Rattle.rows.proofs.Fill.{tabulated-length, tabulated-word}
 use Rattle.rows.proofs.TrimLaws.{short}
-use Rattle.rows.proofs.MeetLaws.{and-bit, of-and-bit}
 use Rattle.laws.proofs.ListLaws.{and-true}
 use Rattle.laws.proofs.WordLaws.{word-ext, zero-bit, pow-only}
-use Rattle.laws.proofs.ShiftLaws.{bit-shr, bit-mask, bit-mod, of-shifted, in-shifted}
+use Rattle.laws.proofs.ShiftLaws.{and-bit, of-and-bit, bit-shr, bit-mask, bit-mod, of-shifted, in-shifted}
 use Rattle.laws.specs.Supported.{Supports}
 use Rattle.laws.proofs.Supports.{moved-support}
 use Rattle.cat.specs.Splits.{Three, Split, Outside, Supported}

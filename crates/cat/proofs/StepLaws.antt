@@ -13,12 +13,11 @@ use Rattle.model.specs.Words.{bit, word, Words}
 use Rattle.model.specs.Domains.{row}
 use Rattle.model.specs.Constraints.{cat}
 use Rattle.words.specs.Ends.{Highest}
-use Rattle.rows.proofs.Fill.{zeros-word}
-use Rattle.rows.proofs.MeetLaws.{and-bit, of-and-bit}
 use Rattle.rows.proofs.ChoiceLaws.{no-choice}
+use Rattle.laws.proofs.ListLaws.{getD-zeros}
 use Rattle.laws.proofs.DomainLaws.{row-length, row-words}
 use Rattle.laws.proofs.WordLaws.{zero-bit}
-use Rattle.laws.proofs.ShiftLaws.{bit-mask}
+use Rattle.laws.proofs.ShiftLaws.{and-bit, of-and-bit, bit-mask}
 use Rattle.inplace.specs.declared.Change.{Change}
 use Rattle.inplace.specs.InPlace.{InPlace}
 use Rattle.inplace.specs.InTable.{Tidy, Flag, Meets}
@@ -92,7 +91,7 @@ module _ (T : List ℕ) (x y z : ℕ) (s₃ : Strings T x y z) (bd : Words T) wh
         allowed = λ b e. of-rest b e .0;
         meeting = λ b e i l. let k = of-rest b e .1 in met .filled i (omega arith);
         first = λ i l. absurd (omega arith);
-        ended = λ i l. ap (λ (v : List ℕ). word v (suc i)) (zero-rows .0) ∙ zeros-word 64 (suc i);
+        ended = λ i l. ap (λ (v : List ℕ). word v (suc i)) (zero-rows .0) ∙ getD-zeros 64 (suc i);
         third = λ i l. absurd (omega arith);
       }
 

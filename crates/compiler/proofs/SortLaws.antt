@@ -2,21 +2,21 @@
 use mathlib.Core.Path.{_≡_, refl, sym, ap, _∙_}
 use mathlib.Core.Logic.{⊎-elim}
 use mathlib.Core.Bool.{Bool, true, false, cond, _&&_, false≢true}
-use mathlib.Core.List.{List, [], _∷_}
-use Prim.Native.Nat.{ℕ, zero, suc, _+_, _-_, _^_, _≤_, _<_}
+use mathlib.Core.List.{List}
+use Prim.Native.Nat.{ℕ, _+_, _-_, _^_, _≤_, _<_}
 use native.Mathlib.Omega.{arith}
 use native.Mathlib.Nat.{eq-or-lt-of-le}
 use lib.Bits.{bitAnd, bitOr}
 use lib.Dec.{eqb, leb}
-use lib.ListN.{length, getD, set, replicate, length-set, length-replicate}
+use lib.ListN.{length, getD, set, replicate, length-set, length-replicate, List·getD-eq-default}
 use lib.Seq.{getD-set-same, getD-set-other}
 use borrow.Author.Tests.{eqb-true, eqb-false, leb-true}
 use Rattle.model.specs.Words.{bit}
 use Rattle.model.specs.PatternText.{symbolOf, symbolAt}
 use Rattle.model.specs.PatternStates.{having}
-use Rattle.laws.proofs.ListLaws.{and-true, true-and}
+use Rattle.laws.proofs.ListLaws.{and-true, getD-zeros}
 use Rattle.laws.proofs.WordLaws.{zero-bit, of-or-bit, or-bit-left, or-bit-right, pow-self, pow-only, within-antisym}
-use Rattle.laws.proofs.ShiftLaws.{bit-and}
+use Rattle.laws.proofs.ShiftLaws.{and-bit, of-and-bit}
 use Rattle.patterns.proofs.StateLaws.{of-having, in-having}
 use Rattle.compiler.specs.Answers.{Sorted}
 
@@ -28,12 +28,7 @@ symbol-in s p r e = e
 
 pub symbol-past : (s : List ℕ) (p : ℕ) → length s ≤ p → 39 ≡ symbolAt s p
 unfolding symbolAt symbolOf
-symbol-past s p l = rw (past s p l)
-  where
-    past : (s : List ℕ) (p : ℕ) → length s ≤ p → _≡_ {A = ℕ} (getD s p 0) 0
-    past [] p l = refl
-    past (b ∷ s) zero l = absurd (omega arith)
-    past (b ∷ s) (suc p) l = past s p (omega arith)
+symbol-past s p l = rw (List·getD-eq-default s 0 l)
 
 -- no symbol of a letter is above 38, and 39 stands for a byte that is none
 symbol-most : (b : ℕ) → symbolOf b ≤ 39
@@ -73,12 +68,7 @@ module _ (s : List ℕ) where
   }
     where
       zeros : (a : ℕ) → getD P a 0 ≡ 0
-      zeros a = ap (λ (Q : List ℕ). getD Q a 0) e ∙ go 64 a
-        where
-          go : (n a : ℕ) → _≡_ {A = ℕ} (getD (replicate n 0) a 0) 0
-          go zero a = refl
-          go (suc n) zero = refl
-          go (suc n) (suc a) = go n a
+      zeros a = ap (λ (Q : List ℕ). getD Q a 0) e ∙ getD-zeros 64 a
 
   pub sorted-step : (i : ℕ) (P : List ℕ) (b o : ℕ) → Sorted s i P → b ≡ symbolAt s i → o ≡ 2 ^ i → Sorted s (i + 1) (set P b (bitOr (getD P b 0) o))
   sorted-step i P b o h e k =
@@ -124,9 +114,9 @@ module _ (s : List ℕ) where
   pub sorted-having : (P : List ℕ) → Sorted s 64 P → (a w : ℕ) → bitAnd w (getD P a 0) ≡ having (symbolAt s) a w
   sorted-having P h a w = within-antisym _ _
       (λ q g.
-      let t = and-true (bit w q) (bit (getD P a 0) q) (sym (bit-and w (getD P a 0) q) ∙ g) in
+      let t = of-and-bit w (getD P a 0) q g in
       let u = h .sound a q (t .1) in
       in-having (symbolAt s) a w q (t .0) (u .0) (u .1))
       (λ q g.
       let t = of-having (symbolAt s) a w q g in
-      bit-and w (getD P a 0) q ∙ true-and (t .0) (ap (λ (c : ℕ). bit (getD P c 0) q) (sym (t .2)) ∙ h .complete q (t .1)))
+      and-bit w (getD P a 0) q (t .0) (ap (λ (c : ℕ). bit (getD P c 0) q) (sym (t .2)) ∙ h .complete q (t .1)))

@@ -10,9 +10,9 @@ use lib.ListN.{length, getD}
 use borrow.Author.Tests.{le-leb, lt-leb, eqb-true, eqb-false, eq-eqb, ne-eqb}
 use Rattle.model.specs.Lists.{any, select, upto}
 use Rattle.model.specs.Words.{bit, bits, union}
-use Rattle.laws.proofs.ListLaws.{of-any, in-any, in-all, in-getD, getD-in, of-all, of-select, in-select, of-upto, in-upto, and-true, true-and}
+use Rattle.laws.proofs.ListLaws.{of-any, in-any, in-all, in-getD, getD-in, of-all, of-select, in-select, of-upto, in-upto}
 use Rattle.laws.proofs.WordLaws.{zero-bit, no-bits, bit-high, of-bits, in-bits, within-antisym}
-use Rattle.laws.proofs.ShiftLaws.{bit-and}
+use Rattle.laws.proofs.ShiftLaws.{and-bit, of-and-bit}
 use Rattle.model.specs.Pattern.{Pattern}
 use Rattle.model.specs.PatternText.{symbolOf}
 use Rattle.model.specs.PatternStates.{State, start, passed, when, nullable, last, final}
@@ -70,13 +70,13 @@ below-not k s p l e = go (lettersBelow k s) refl
 common : (w l : ℕ) → w < 2 ^ 64 → (t : Bool) → any (bit l) (bits w) ≡ t → not (eqb (bitAnd w l) 0) ≡ t
 common w l h true e =
     let m = of-any (bit l) (bits w) e in
-    let b = bit-and w l (m .0) ∙ true-and (of-bits w (m .1) .0) (m .2) in
+    let b = and-bit w l (m .0) (of-bits w (m .1) .0) (m .2) in
     ap not (ne-eqb (bitAnd w l) 0 (λ z. false≢true (sym (zero-bit (m .0)) ∙ ap (λ (x : ℕ). bit x (m .0)) (sym z) ∙ b)))
 common w l h false e = ap not (eq-eqb (bitAnd w l) 0 (no-bits (bitAnd w l) (λ b. go b (bit (bitAnd w l) b) refl)))
   where
     go : (b : ℕ) (t : Bool) → bit (bitAnd w l) b ≡ t → t ≡ false
     go b true q =
-        let u = and-true (bit w b) (bit l b) (sym (bit-and w l b) ∙ q) in
+        let u = of-and-bit w l b q in
         absurd (true≢false (sym (in-any (bit l) (in-bits w b (u .0) (bit-high w 64 b h (u .0))) (u .1)) ∙ e))
     go b false q = refl
 

@@ -14,7 +14,8 @@ use Rattle.model.specs.Support.{narrowed}
 use Rattle.words.specs.Ends.{Highest}
 use Rattle.rows.specs.Rows.{alone, trimmed, met}
 use Rattle.rows.proofs.TrimLaws.{short}
-use Rattle.rows.proofs.MeetLaws.{met-length, met-word, met-words, of-and-bit}
+use Rattle.rows.proofs.MeetLaws.{met-length, met-word, met-words}
+use Rattle.laws.proofs.ShiftLaws.{of-and-bit}
 use Rattle.laws.proofs.DomainLaws.{row-length, row-words}
 use Rattle.inplace.specs.InTable.{Tidy, Out, Ready, both, Meet, Shortened, zeros}
 use Rattle.inplace.specs.InPlace.{InPlace}

@@ -1,10 +1,10 @@
 -- The index as it is filled, record by record, from a file's constraint bytes. Assumes nothing.
-use mathlib.Core.Path.{_≡_, refl, sym, ap, subst, _∙_}
+use mathlib.Core.Path.{_≡_, sym, ap, subst, _∙_}
 use mathlib.Core.Logic.{⊎-elim}
 use mathlib.Core.Bool.{true, false≢true}
 use mathlib.Core.List.{List, Memᴰ·map, Memᴰ·of-map}
 use mathlib.Core.Option.{some, Option·none-ne-some, Option·some-injective}
-use Prim.Native.Nat.{ℕ, zero, suc, _+_, _-_, _*_, _^_, _≤_, _<_}
+use Prim.Native.Nat.{ℕ, _+_, _-_, _*_, _^_, _≤_, _<_}
 use native.Mathlib.Nat.{eq-or-lt-of-le}
 use native.Mathlib.Omega.{arith}
 use lib.ListN.{length, getD, take, drop, replicate}
@@ -15,6 +15,7 @@ use Rattle.model.specs.Solutions.{InRange}
 use Rattle.model.specs.Layout.{part}
 use Rattle.model.specs.Reading.{decode}
 use Rattle.laws.specs.Inclusion.{In}
+use Rattle.laws.proofs.ListLaws.{getD-zeros}
 use Rattle.laws.proofs.WordLaws.{zero-bit, pow-self, pow-only}
 use Rattle.laws.proofs.ReadingLaws.{decode-range}
 use Rattle.layout.specs.declared.Parts.{Parts}
@@ -29,11 +30,6 @@ use Rattle.index.specs.Index.{position, Named, Index}
 use Rattle.index.specs.Joining.{positions, Fits, Joined}
 use Rattle.index.proofs.KindLaws.{range-fits}
 
-zeros : (n i : ℕ) → _≡_ {A = ℕ} (word (replicate n 0) i) 0
-zeros zero i = refl
-zeros (suc n) zero = refl
-zeros (suc n) (suc i) = zeros n i
-
 -- nothing is noted yet
 pub noting-first : (P : Problem) → Named P 0 (replicate 32 0)
 noting-first P = record {
@@ -43,7 +39,7 @@ noting-first P = record {
 }
   where
     no-bit : {A : Type 0} (i j : ℕ) → bit (word (replicate 32 0) i) j ≡ true → A
-    no-bit i j e = absurd (false≢true (sym (zero-bit j) ∙ ap (λ (w : ℕ). bit w j) (sym (zeros 32 i)) ∙ e))
+    no-bit i j e = absurd (false≢true (sym (zero-bit j) ∙ ap (λ (w : ℕ). bit w j) (sym (getD-zeros 32 i)) ∙ e))
 
 -- two variables of a problem do not stand at one place
 position-injective : (P : Problem) (v w : Variable) → InRange P v → InRange P w → position (P .strings) v ≡ position (P .strings) w → v ≡ w

@@ -93,10 +93,6 @@ module _ (P : Problem) where
   pub settled-mono : (T U : List ℕ) → Words T → Below T U → Below (settled P T) (settled P U)
   settled-mono T U h p = settled-above (settled P T) U (settled-stable T h) (below-trans (settled-below T) p)
 
-  -- settling once more changes nothing
-  pub settled-settled : (T : List ℕ) → Words T → settled P (settled P T) ≡ settled P T
-  settled-settled T h = below-antisym (settled-below (settled P T)) (settled-above (settled P T) (settled P T) (settled-stable T h) (below-refl (settled P T)))
-
   -- ---- the rounds: at most one more than the bits struck
   rounds-size : (f : ℕ) (T : List ℕ) → settlingIn f P T .rounds + size (settlingIn f P T .table) ≤ suc (size T)
   unfolding settlingIn round

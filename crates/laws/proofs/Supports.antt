@@ -2,16 +2,13 @@
 -- the parts together, so that a step's proof only says which choices its parts stand for. Assumes nothing.
 use mathlib.Core.Path.{_≡_, refl, sym, ap, subst, _∙_}
 use mathlib.Core.Logic.{_⊎_, inl, inr, ⊎-elim}
-use mathlib.Core.Bool.{Bool, true, false, false≢true}
+use mathlib.Core.Bool.{true, false≢true}
 use mathlib.Core.List.{List, [], _∷_, map, List·Memᴰ·head}
 use Prim.Native.Nat.{ℕ, suc, _+_, _*_, _^_, _≤_, _<_, zero}
-use native.Mathlib.Nat.{eq-or-lt-of-le, le-of-suc-le-suc}
 use native.Mathlib.Omega.{arith}
 use lib.Bits.{bitOr}
-use lib.Dec.{eqb}
 use lib.ListN.{length, replicate, length-replicate, getD-replicate, length-map}
 use lib.Seq.{ext-getD}
-use borrow.Author.Tests.{eqb-true, eqb-false}
 use Rattle.model.specs.Lists.{from}
 use Rattle.model.specs.Words.{bit, word}
 use Rattle.model.specs.Domains.{str, num, row, stringsOf}
@@ -19,7 +16,7 @@ use Rattle.model.specs.Constraints.{Problem, Constraint, always, variables, mee
 use Rattle.model.specs.Solutions.{textBit}
 use Rattle.model.specs.Support.{narrowed}
 use Rattle.laws.specs.Inclusion.{In}
-use Rattle.laws.specs.Supported.{OfKinds, Supports}
+use Rattle.laws.specs.Supported.{Supports}
 use Rattle.laws.proofs.ListLaws.{from-length, from-getD}
 use Rattle.laws.proofs.WordLaws.{zero-bit, within-antisym, or-bit-left, or-bit-right, of-or-bit}
 use Rattle.laws.proofs.DomainLaws.{row-word, row-length, used-text, used-value, InDomain}
@@ -78,11 +75,6 @@ pub orWords-word : (n : ℕ) (r s : List ℕ) (i : ℕ) → i < n → word (orWo
 unfolding orWords
 orWords-word n r s i h = let q : 0 + i ≡ i = omega arith in from-getD (λ i. bitOr (word r i) (word s i)) 0 n i 0 h ∙ ap (λ (j : ℕ). bitOr (word r j) (word s j)) q
 
--- of one word each
-pub or-one : (a b : ℕ) → bitOr a b ∷ [] ≡ orWords 1 (a ∷ []) (b ∷ [])
-unfolding orWords from
-or-one a b = refl
-
 -- choices of one kind or of another
 pub either-support : {K : Type 0} (A B : K → Type 0) (bitsOf : K → ℕ → ℕ) (n : ℕ) (r s : List ℕ) → Supports A bitsOf n r → Supports B bitsOf n s
     → Supports (λ v. A v ⊎ B v) bitsOf n (orWords n r s)
@@ -97,31 +89,6 @@ either-support A B bitsOf n r s p q = record {
       (λ x. or-bit-right (word r i) (word s i) b (q .complete i b h v x e))
       ok;
 }
-
-pub no-kinds : {K : Type 0} (A : ℕ → K → Type 0) (bitsOf : K → ℕ → ℕ) (n : ℕ) → Supports (OfKinds A 0) bitsOf n (replicate n 0)
-no-kinds A bitsOf n = none-support (OfKinds A 0) bitsOf n (λ v ok. let h = ok .1 in omega arith)
-
-pub next-kind : {K : Type 0} (A : ℕ → K → Type 0) (bitsOf : K → ℕ → ℕ) (n m : ℕ) (r s : List ℕ) → Supports (A m) bitsOf n r → Supports (OfKinds A m) bitsOf n s
-    → Supports (OfKinds A (suc m)) bitsOf n (orWords n r s)
-next-kind {K} A bitsOf n m r s p q = moved-support (λ v. A m v ⊎ OfKinds A m v) (OfKinds A (suc m)) bitsOf bitsOf n (orWords n r s)
-    (λ v ok. (v, ⊎-elim (λ x. (m, omega arith, x)) (λ x. let h = x .1 in (x .0, omega arith, x .2)) ok, λ i h. refl))
-    (λ v ok. (v, split v (ok .0) (ok .1) (ok .2), λ i h. refl))
-    (either-support (A m) (OfKinds A m) bitsOf n r s p q)
-  where
-    split : (v : K) (t : ℕ) → t < suc m → A t v → A m v ⊎ OfKinds A m v
-    split v t h x = go (eqb t m) refl
-      where
-        go : (c : Bool) → eqb t m ≡ c → A m v ⊎ OfKinds A m v
-        go true e = inl (subst (λ (k : ℕ). A k v) (eqb-true t m e) x)
-        go false e = let ne = eqb-false t m e in inr (t, omega arith, x)
-
--- a kind that nothing is of adds nothing
-pub skip-kind : {K : Type 0} (A : ℕ → K → Type 0) (bitsOf : K → ℕ → ℕ) (n m : ℕ) (s : List ℕ) → ((v : K) → A m v → ⊥) → Supports (OfKinds A m) bitsOf n s
-    → Supports (OfKinds A (suc m)) bitsOf n s
-skip-kind {K} A bitsOf n m s never q = moved-support (OfKinds A m) (OfKinds A (suc m)) bitsOf bitsOf n s
-    (λ v ok. let h = ok .1 in (v, (ok .0, omega arith, ok .2), λ i h. refl))
-    (λ v ok. (v, ⊎-elim (λ e. absurd (never v (subst (λ (k : ℕ). A k v) e (ok .2)))) (λ h. (ok .0, h, ok .2)) (eq-or-lt-of-le (le-of-suc-le-suc (ok .1))), λ i h. refl))
-    q
 
 -- ---- what a narrowing step leaves has the support of the choices that support the constraint
 

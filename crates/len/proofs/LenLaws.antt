@@ -15,10 +15,10 @@ use Rattle.model.specs.Solutions.{textBit}
 use Rattle.model.specs.Support.{narrowed}
 use Rattle.rows.specs.Rows.{alone, trimmed}
 use Rattle.rows.proofs.TrimLaws.{trimmed-supports}
-use Rattle.rows.proofs.MeetLaws.{and-bit, of-and-bit}
 use Rattle.rows.proofs.Alone.{rows-narrowed, one-word}
 use Rattle.laws.specs.Supported.{InRow, Supports}
 use Rattle.laws.proofs.WordLaws.{bit-high}
+use Rattle.laws.proofs.ShiftLaws.{and-bit, of-and-bit}
 use Rattle.laws.proofs.RowLaws.{length-pow}
 use Rattle.laws.proofs.Supports.{moved-support, first-word-supports}
 use Rattle.model.specs.Lists.{from, upto}

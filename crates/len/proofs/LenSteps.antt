@@ -14,8 +14,8 @@ use Rattle.model.specs.Domains.{row}
 use Rattle.model.specs.Constraints.{len}
 use Rattle.model.specs.Support.{narrowed}
 use Rattle.rows.specs.Rows.{alone, trimmed}
-use Rattle.rows.proofs.MeetLaws.{of-and-bit}
 use Rattle.laws.specs.Inclusion.{Within}
+use Rattle.laws.proofs.ShiftLaws.{of-and-bit}
 use Rattle.laws.proofs.DomainLaws.{row-length, row-words}
 use Rattle.inplace.specs.InTable.{Tidy, Ready, Shortened}
 use Rattle.inplace.specs.InPlace.{InPlace}

@@ -15,10 +15,9 @@ use Rattle.model.specs.Words.{bit, several, word, Words}
 use Rattle.model.specs.Constraints.{differ}
 use Rattle.model.specs.Solutions.{textBit}
 use Rattle.words.specs.Ends.{Highest}
-use Rattle.rows.proofs.MeetLaws.{and-bit, of-and-bit}
 use Rattle.laws.specs.Supported.{InRow, Supports}
 use Rattle.laws.proofs.WordLaws.{zero-bit, no-bits, pow-self, pow-only, within-antisym}
-use Rattle.laws.proofs.ShiftLaws.{bit-flip}
+use Rattle.laws.proofs.ShiftLaws.{and-bit, of-and-bit, bit-flip}
 use Rattle.laws.proofs.BitsLaws.{single, several-true, several-false, two-bits}
 use Rattle.laws.proofs.RowLaws.{length-used, symbol-used, symbol-inside, symbol-pow, used-length, used-symbol, used-within}
 use Rattle.laws.proofs.NeqLaws.{differ-true, differ-false, differ-self}

@@ -20,12 +20,11 @@ use Rattle.model.specs.Support.{narrowed}
 use Rattle.words.specs.Ends.{Highest}
 use Rattle.rows.specs.Rows.{alone, trimmed}
 use Rattle.rows.proofs.TrimLaws.{some-bit, trimmed-supports}
-use Rattle.rows.proofs.MeetLaws.{of-and-bit}
 use Rattle.laws.specs.Inclusion.{Within}
 use Rattle.laws.specs.Supported.{InRow, Supports}
 use Rattle.laws.proofs.DomainLaws.{row-length, row-words, row-past}
 use Rattle.laws.proofs.WordLaws.{zero-bit, pow-only, pow-self}
-use Rattle.laws.proofs.ShiftLaws.{bit-shr}
+use Rattle.laws.proofs.ShiftLaws.{of-and-bit, bit-shr}
 use Rattle.inplace.specs.InPlace.{InPlace}
 use Rattle.inplace.specs.InTable.{Tidy, Ready, Shortened, Flag, zeros}
 use Rattle.inplace.proofs.Reach.{empty-none}

@@ -11,9 +11,9 @@ use lib.ListN.{length, getD}
 use Rattle.model.specs.Words.{bit, word, bits}
 use Rattle.model.specs.Constraints.{Automaton, move}
 use Rattle.laws.proofs.WordLaws.{or-bit-left, or-bit-right, of-or-bit}
+use Rattle.laws.proofs.ShiftLaws.{and-bit, of-and-bit}
 use Rattle.words.specs.Ends.{Highest}
 use Rattle.rows.proofs.TrimLaws.{some-bit}
-use Rattle.rows.proofs.MeetLaws.{and-bit, of-and-bit}
 use Rattle.automata.specs.StateSets.{Steps}
 use Rattle.automata.proofs.SetLaws.{no-bit}
 use Rattle.inplace.specs.InTable.{Tidy}

@@ -7,8 +7,8 @@ use lib.Bits.{bitAnd}
 use lib.ListN.{getD}
 use Rattle.model.specs.Words.{bit, bits}
 use Rattle.laws.proofs.WordLaws.{zero-bit, bit-high}
+use Rattle.laws.proofs.ShiftLaws.{and-bit, of-and-bit}
 use Rattle.rows.proofs.TrimLaws.{some-bit}
-use Rattle.rows.proofs.MeetLaws.{and-bit, of-and-bit}
 
 -- ---- a word where a test passes, and nothing where it does not
 

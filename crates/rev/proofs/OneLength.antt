@@ -15,10 +15,10 @@ use Rattle.model.specs.Constraints.{rev}
 use Rattle.model.specs.Support.{narrowed}
 use Rattle.words.specs.Ends.{Highest}
 use Rattle.rows.specs.Rows.{alone, trimmed}
-use Rattle.rows.proofs.MeetLaws.{and-bit, of-and-bit}
 use Rattle.laws.proofs.DomainLaws.{row-words}
 use Rattle.laws.proofs.WordLaws.{pow-self, pow-only, pow-within, within-antisym}
 use Rattle.laws.proofs.BitsLaws.{single, several-false}
+use Rattle.laws.proofs.ShiftLaws.{and-bit, of-and-bit}
 use Rattle.inplace.specs.InTable.{Tidy, Out, Only, Ready, Shortened}
 use Rattle.inplace.specs.InPlace.{InPlace}
 use Rattle.inplace.specs.Written.{Written}

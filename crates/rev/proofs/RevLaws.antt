@@ -19,11 +19,11 @@ use Rattle.words.specs.Ends.{Highest}
 use Rattle.rows.specs.Rows.{alone, trimmed}
 use Rattle.rows.proofs.Fill.{tabulated-length, tabulated-word}
 use Rattle.rows.proofs.TrimLaws.{trimmed-supports}
-use Rattle.rows.proofs.MeetLaws.{and-bit, of-and-bit}
 use Rattle.rows.proofs.TwoStrings.{Two, Met, two-narrowed}
 use Rattle.laws.specs.Supported.{InRow, Supports}
 use Rattle.laws.proofs.ListLaws.{same-true, same-refl, getD-reverse}
 use Rattle.laws.proofs.WordLaws.{zero-bit, pow-bit, pow-self, pow-only, bit-sub}
+use Rattle.laws.proofs.ShiftLaws.{and-bit, of-and-bit}
 use Rattle.laws.proofs.Supports.{moved-support, none-support}
 use Rattle.inplace.specs.InTable.{Tidy}
 use Rattle.inplace.proofs.Parts.{tidy-supports}

@@ -13,11 +13,11 @@ use Rattle.model.specs.Constraints.{rev}
 use Rattle.model.specs.Solutions.{textBit}
 use Rattle.model.specs.Support.{narrowed}
 use Rattle.rows.specs.Rows.{alone}
-use Rattle.rows.proofs.MeetLaws.{and-bit, of-and-bit}
 use Rattle.rows.proofs.ChoiceLaws.{no-choice}
 use Rattle.laws.specs.Supported.{InRow, Supports}
 use Rattle.laws.proofs.DomainLaws.{row-length, row-words}
 use Rattle.laws.proofs.WordLaws.{zero-bit}
+use Rattle.laws.proofs.ShiftLaws.{and-bit, of-and-bit}
 use Rattle.laws.proofs.Supports.{none-support}
 use Rattle.inplace.specs.InTable.{Tidy, Out, Flag, zeros}
 use Rattle.inplace.specs.InPlace.{InPlace}

@@ -1,17 +1,12 @@
--- Lists by their indices: f 0, f 1, .. up to a number, and nothing but 0. Assumes nothing.
-use mathlib.Core.Path.{_≡_, refl, ap, _∙_}
+-- Lists by their indices: f 0, f 1, .. up to a number. Assumes nothing.
+use mathlib.Core.Path.{_≡_, ap, _∙_}
 use mathlib.Core.List.{map}
-use Prim.Native.Nat.{ℕ, zero, suc, _+_, _<_}
+use Prim.Native.Nat.{ℕ, _+_, _<_}
 use native.Mathlib.Omega.{arith}
-use lib.ListN.{length, getD, length-map, replicate}
+use lib.ListN.{length, length-map}
 use Rattle.model.specs.Lists.{upto, from}
 use Rattle.model.specs.Words.{word}
 use Rattle.laws.proofs.ListLaws.{from-length, from-getD}
-
-pub zeros-word : (n i : ℕ) → _≡_ {A = ℕ} (getD (replicate n 0) i 0) 0
-zeros-word zero i = refl
-zeros-word (suc n) zero = refl
-zeros-word (suc n) (suc i) = zeros-word n i
 
 -- f 0 to f (n - 1)
 pub tabulated-length : (f : ℕ → ℕ) (n : ℕ) → length (map f (upto n)) ≡ n

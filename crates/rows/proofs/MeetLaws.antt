@@ -13,9 +13,8 @@ use Rattle.model.specs.Words.{bit, word, Words}
 use Rattle.rows.specs.Rows.{met, joined}
 use Rattle.rows.proofs.Fill.{tabulated-length, tabulated-word}
 use Rattle.laws.specs.Supported.{InRow}
-use Rattle.laws.proofs.ListLaws.{and-true, true-and}
 use Rattle.laws.proofs.WordLaws.{zero-bit}
-use Rattle.laws.proofs.ShiftLaws.{bit-and}
+use Rattle.laws.proofs.ShiftLaws.{and-bit, of-and-bit}
 use Rattle.laws.proofs.RowLaws.{Short}
 use Rattle.laws.proofs.Supports.{orWords}
 
@@ -28,13 +27,6 @@ met-length x y = tabulated-length (λ i. bitAnd (word x i) (word y i)) 64
 pub met-word : (x y : List ℕ) (i : ℕ) → i < 64 → word (met x y) i ≡ bitAnd (word x i) (word y i)
 unfolding met
 met-word x y i h = tabulated-word (λ i. bitAnd (word x i) (word y i)) 64 i h
-
--- a bit of an intersection
-pub and-bit : (a c b : ℕ) → bit a b ≡ true → bit c b ≡ true → bit (bitAnd a c) b ≡ true
-and-bit a c b p q = bit-and a c b ∙ true-and p q
-
-pub of-and-bit : (a c b : ℕ) → bit (bitAnd a c) b ≡ true → (bit a b ≡ true) × (bit c b ≡ true)
-of-and-bit a c b e = and-true (bit a b) (bit c b) (sym (bit-and a c b) ∙ e)
 
 -- a meet stands for the strings that both rows allow
 pub in-met : (x y w : List ℕ) → Short w → InRow x w → InRow y w → InRow (met x y) w

@@ -1,7 +1,7 @@
 -- Strings and words struck whole, one after the other: what is left is the table that a constraint without a choice leaves. Assumes nothing.
 use mathlib.Core.Path.{_≡_, refl, sym, ap, subst, _∙_}
 use mathlib.Core.Bool.{Bool, true, false, cond, false≢true}
-use mathlib.Core.List.{List, [], _∷_, _++_, map, List·Memᴰ·head, List·Memᴰ·tail, Memᴰ·append-left, Memᴰ·append-right, Memᴰ·map}
+use mathlib.Core.List.{List, [], _∷_, _++_, map, List·Memᴰ·head, List·Memᴰ·tail, Memᴰ·append-left, Memᴰ·append-right, Memᴰ·map, Memᴰ·of-map}
 use Prim.Native.Nat.{ℕ, zero, suc, _+_, _*_, _<_, _≤_}
 use native.Mathlib.Omega.{arith}
 use lib.Dec.{eqb}
@@ -21,7 +21,7 @@ use Rattle.steps.specs.declared.Names.{Names}
 use Rattle.steps.specs.Step.{cleared}
 use Rattle.steps.specs.Names.{texts, numbers, Naming, Inside, Blanked}
 use Rattle.steps.proofs.ClearLaws.{is-cleared}
-use Rattle.steps.proofs.NarrowsLaws.{of-map, num-in}
+use Rattle.steps.proofs.NarrowsLaws.{num-in}
 use Rattle.steps.proofs.NamingLaws.{named-text, text-named}
 use Rattle.steps.proofs.TidyLaws.{take-next}
 
@@ -99,8 +99,8 @@ blanked-cleared P c m T U r n b = is-cleared P c T U (b .size) gone other
     other : (k : ℕ) → k < length T → touches P c k ≡ false → word U k ≡ word T k
     other k h t = b .others k
         (λ x i j l e. let v = text-in x i in false≢true (sym t ∙ ap (touches P c) e ∙ touched-text P c x j (r (str x) v) l v))
-        (λ w i e. let v = of-map (λ (z : ℕ). 64 * P .strings + z) (n .values) (subst (λ (l : List ℕ). In w l) (n .words) i) in
-        false≢true (sym t ∙ ap (touches P c) (e ∙ v .2) ∙ touched-value P c (v .0) (value-in (v .0) (v .1))))
+        (λ w i e. let v = Memᴰ·of-map (λ (z : ℕ). 64 * P .strings + z) (n .values) (subst (λ (l : List ℕ). In w l) (n .words) i) in
+        false≢true (sym t ∙ ap (touches P c) (e ∙ sym (v .2)) ∙ touched-value P c (v .0) (value-in (v .0) (v .1))))
 
 -- ---- the loop over the strings that are named
 

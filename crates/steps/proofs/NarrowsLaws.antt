@@ -3,7 +3,7 @@
 use mathlib.Core.Path.{_≡_, refl, sym, ap, subst, _∙_}
 use mathlib.Core.Logic.{_≢_}
 use mathlib.Core.Bool.{Bool, true, false, false≢true}
-use mathlib.Core.List.{List, [], _∷_, _++_, map, map-map, List·Memᴰ·head, List·Memᴰ·tail}
+use mathlib.Core.List.{List, [], _∷_, _++_, map, map-map, List·Memᴰ·head, List·Memᴰ·tail, Memᴰ·of-map}
 use Prim.Native.Nat.{ℕ, _+_, _-_, _*_, _<_, _≤_}
 use native.Mathlib.Omega.{arith}
 use lib.Dec.{eqb, ltb}
@@ -31,11 +31,6 @@ use Rattle.steps.proofs.ClearLaws.{cleared-length, cleared-touched, cle
 
 -- ---- members of the lists
 
-pub of-map : {A : Type 0} (f : ℕ → A) (xs : List ℕ) {y : A} → In y (map f xs) → (x : ℕ) × In x xs × (y ≡ f x)
-of-map f [] m = elim m [ ]
-of-map f (x ∷ xs) (List·Memᴰ·head e) = (x, List·Memᴰ·head refl, e)
-of-map f (x ∷ xs) (List·Memᴰ·tail m) = let t = of-map f xs m in (t .0, List·Memᴰ·tail (t .1), t .2)
-
 same-str : {x y : ℕ} → str x ≡ str y → x ≡ y
 same-str e = cc
 
@@ -43,12 +38,12 @@ same-num : {x y : ℕ} → num x ≡ num y → x ≡ y
 same-num e = cc
 
 pub str-in : (xs ms : List ℕ) (x : ℕ) → In (str x) (map str xs ++ map num ms) → In x xs
-str-in [] ms x m = let t = of-map num ms m in absurd (str≢num (t .2))
+str-in [] ms x m = let t = Memᴰ·of-map num ms m in absurd (str≢num (sym (t .2)))
 str-in (y ∷ xs) ms x (List·Memᴰ·head e) = List·Memᴰ·head (same-str e)
 str-in (y ∷ xs) ms x (List·Memᴰ·tail m) = List·Memᴰ·tail (str-in xs ms x m)
 
 pub num-in : (xs ms : List ℕ) (m : ℕ) → In (num m) (map str xs ++ map num ms) → In m ms
-num-in [] ms m k = let t = of-map num ms k in subst (λ (v : ℕ). In v ms) (sym (same-num (t .2))) (t .1)
+num-in [] ms m k = let t = Memᴰ·of-map num ms k in subst (λ (v : ℕ). In v ms) (same-num (t .2)) (t .1)
 num-in (x ∷ xs) ms m (List·Memᴰ·head e) = absurd (str≢num (sym e))
 num-in (x ∷ xs) ms m (List·Memᴰ·tail k) = num-in xs ms m k
 
@@ -70,7 +65,7 @@ module _ (P : Problem) (c d : Constraint) (ds : List Automaton) (xs ms : List �
   out-value k u m h q = false≢true (sym u ∙ ap (touches P c) q ∙ touched-value P c m (n .values m h .1))
 
   others : (k : ℕ) → ((x : ℕ) → In x xs → Out x k) → ((m : ℕ) → In m ms → k ≢ at-word m) → word U k ≡ word T k
-  others k f g = s .others k f (λ i h q. let t = of-map at-word ms h in g (t .0) (t .1) (q ∙ t .2))
+  others k f g = s .others k f (λ i h q. let t = Memᴰ·of-map at-word ms h in g (t .0) (t .1) (q ∙ sym (t .2)))
 
   words-same : (W : List ℕ) → map (word W) (map at-word ms) ≡ map (λ m. word W (at-word m)) ms
   words-same W = map-map (word W) at-word ms

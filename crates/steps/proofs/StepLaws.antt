@@ -2,7 +2,7 @@
 use mathlib.Core.Path.{_≡_, refl, sym, ap, subst, _∙_}
 use mathlib.Core.Logic.{_≢_}
 use mathlib.Core.Bool.{Bool, true, false, cond, false≢true}
-use mathlib.Core.List.{List, [], _∷_, _++_, map, List·Memᴰ·head, Memᴰ·map, Memᴰ·append-left, Memᴰ·append-right}
+use mathlib.Core.List.{List, [], _∷_, _++_, map, List·Memᴰ·head, Memᴰ·map, Memᴰ·append-left, Memᴰ·append-right, Memᴰ·of-map}
 use Prim.Native.Nat.{ℕ, _+_, _-_, _*_, _≤_, _<_}
 use native.Mathlib.Omega.{arith}
 use lib.Dec.{ltb}
@@ -35,7 +35,7 @@ use Rattle.inplace.specs.InPlace.{taken}
 use Rattle.steps.specs.declared.Names.{Names}
 use Rattle.steps.specs.Step.{Step, TidyIn, Narrows, Leaves, KindsIn}
 use Rattle.steps.specs.Names.{texts, numbers, Naming, Inside, Tidies, Blanked}
-use Rattle.steps.proofs.NarrowsLaws.{of-map, num-in}
+use Rattle.steps.proofs.NarrowsLaws.{num-in}
 use Rattle.steps.proofs.NamingLaws.{named-text, text-named}
 use Rattle.steps.proofs.BlankLaws.{blanked-cleared}
 use Rattle.steps.proofs.SizeLaws.{Plain, plain-none, plain-one, size-differs, step-counted}
@@ -84,8 +84,8 @@ module _ (file : List ℕ) (p : Parts) (r : Record) (T : List ℕ) (b : Bytes fi
   -- what the words of numbers are
   of-word : (i : ℕ) → In i (numbers m) → (v : ℕ) × In (num v) (variables c) × (i ≡ 64 * P .strings + v)
   of-word i k =
-      let t = of-map (λ (z : ℕ). 64 * P .strings + z) (naming .values) (subst (λ (l : List ℕ). In i l) (naming .words) k) in
-      (t .0, subst (λ (l : List Variable). In (num (t .0)) l) (sym (naming .names)) (Memᴰ·append-right (map str (texts m)) (Memᴰ·map num (t .1))), t .2)
+      let t = Memᴰ·of-map (λ (z : ℕ). 64 * P .strings + z) (naming .values) (subst (λ (l : List ℕ). In i l) (naming .words) k) in
+      (t .0, subst (λ (l : List Variable). In (num (t .0)) l) (sym (naming .names)) (Memᴰ·append-right (map str (texts m)) (Memᴰ·map num (t .1))), sym (t .2))
 
   pub inside-of : (U : List ℕ) → length U ≡ length T → Inside m U
   inside-of U e = record {

@@ -14,10 +14,9 @@ use Rattle.model.specs.Words.{bit, word, Words}
 use Rattle.model.specs.Solutions.{textBit}
 use Rattle.words.specs.Ends.{Highest}
 use Rattle.rows.proofs.Fill.{tabulated-length, tabulated-word}
-use Rattle.rows.proofs.MeetLaws.{and-bit, of-and-bit}
 use Rattle.laws.specs.Supported.{InRow, Supports}
 use Rattle.laws.proofs.WordLaws.{zero-bit}
-use Rattle.laws.proofs.ShiftLaws.{bit-shr, bit-mask, of-shifted, in-shifted}
+use Rattle.laws.proofs.ShiftLaws.{and-bit, of-and-bit, bit-shr, bit-mask, of-shifted, in-shifted}
 use Rattle.laws.proofs.RowLaws.{short-of}
 use Rattle.laws.proofs.Supports.{moved-support}
 use Rattle.inplace.specs.InTable.{Tidy}

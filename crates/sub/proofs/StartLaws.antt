@@ -16,8 +16,8 @@ use Rattle.rows.proofs.Fill.{tabulated-length, tabulated-word}
 use Rattle.rows.proofs.TrimLaws.{made}
 use Rattle.laws.specs.Supported.{InRow, Supports}
 use Rattle.laws.proofs.ListLaws.{and-true}
+use Rattle.laws.proofs.ShiftLaws.{and-bit}
 use Rattle.laws.proofs.Supports.{moved-support}
-use Rattle.rows.proofs.MeetLaws.{and-bit}
 use Rattle.inplace.proofs.Tables.{bit-some}
 use Rattle.sub.specs.Substrings.{Alive, Fitting}
 use Rattle.sub.proofs.PartRows.{Part}

@@ -15,9 +15,8 @@ use Rattle.model.specs.Solutions.{textBit}
 use Rattle.words.specs.Ends.{Highest, Lowest}
 use Rattle.rows.specs.Parts.{Cut}
 use Rattle.rows.proofs.TrimLaws.{some-bit}
-use Rattle.rows.proofs.MeetLaws.{and-bit, of-and-bit}
 use Rattle.laws.proofs.WordLaws.{zero-bit, bit-suc, pow-self, pow-only, or-bit-left, or-bit-right, of-or-bit}
-use Rattle.laws.proofs.ShiftLaws.{bit-mask}
+use Rattle.laws.proofs.ShiftLaws.{and-bit, of-and-bit, bit-mask}
 use Rattle.laws.proofs.DomainLaws.{row-words}
 use Rattle.laws.proofs.Supports.{none-support}
 use Rattle.inplace.specs.InTable.{Ready, Shortened, Changed, Flag, both, Meets}
