@@ -88,6 +88,7 @@ LINES = [
     ('part x 2 of ^"ad" b', f"the letter 'd' is not in the alphabet {LETTERS}"),
     ("part x 2 of^   # letters come later", f"expected letters, {END}"),
     ("part x ^0..9", f"the letter '3' is not in the alphabet {LETTERS}"),
+    ("rule r ^= a*", "expected the pattern right behind the name, found '='"),
     ("rule r b ^a..c b", "a pattern has no ranges: expected each letter by itself, as in (a|b|c), found 'a..c'"),
     (f"rule r ^{'a' * 20} {'a' * 11}", STATES),
     ("automaton m\nstate q a b to q, ^b to q, other to q", "the letter 'b' has two moves from state 'q'"),
@@ -237,8 +238,8 @@ SET: clash: 1 clash in 1 question
 s, t       clash           .      .        .
 
 s and t make one name:
-  name  a a | \\"
-  s     x   | "\\""
+  name  "a a" | "\\""
+  s     x     | "\\""
   t     "a a\\""
 
 SET: clash: 1 clash in 1 question
@@ -779,7 +780,13 @@ def stand_ins(folder):
         liar.chmod(0o755)
         got = check(given(folder, text, f"{i}.set"), "--program", liar, "--jobs", 1)
         wrong += unless(f"{line} for {text!r}", got, "the answer for s and t is no clash of this set")
-    return wrong
+    # Two neighbours of one letter are one string of 1 to 3; then no text is one of theirs.
+    shorter = stand_in(folder, "head -c 0; echo found 1; echo s0 0; echo s1 0", "shorter")
+    text = 'alphabet a b\npart x 1..2 of a\npart y 0..1 of a\ntemplate s = x y\ntemplate t = "a"\n'
+    wrong += unless("a text that is too short", check(given(folder, text), "--program", shorter), "that its parts cannot make")
+    # The first problem has its answer; what is asked after it, whether the templates have names, has none: then no verdict is said either.
+    once = stand_in(folder, f"[ -e {folder}/mark ] && kill -9 $$; touch {folder}/mark; echo none 3", "once")
+    return wrong + unless("a program that fails at the end", check(path, "--program", once, "--jobs", 1), "was ended by signal 9")
 
 
 def spent(folder):
@@ -875,6 +882,10 @@ def ends(folder):
     wrong += unless("no set", check(absent), f"{absent}: No such file")
     wrong += unless("a folder", check(folder), f"{folder}: Is a directory")
     wrong += unless("a plan where a file is", check(path, "--plan", one), f"{one}: File exists")
+    wrong += unless("a plan and JSON", check(path, "--plan", folder / "plan", "--json"), "--plan gives no verdict: expected neither --json nor --html")
+    wrong += unless("answers from nowhere", check(path, "--collect", folder / "plan"), "is no folder: expected the one that --plan has filled")
+    if Path("/dev/full").exists():
+        wrong += unless("a page that is full", check(path, "--html", "/dev/full"), "/dev/full: No space")
     for options in ([], ["--json"]):
         wrong += unless(f"standard output closed, {options}", called(path, *options, redirected=">&-"), "standard output: Bad file")
         if Path("/dev/full").exists():

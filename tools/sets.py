@@ -1,8 +1,8 @@
 # Template sets: docs/TEXT.md has their text form, docs/GUIDE.md says what to do with a verdict.
 #     python3 tools/sets.py check SET                whether two templates of the set can ever make one name; with --twice also one of them a name twice
 #     python3 tools/sets.py check SET --plan DIR     writes the problems as files, for other machines; --collect DIR reads their answers
-# The exit status is 0 only if every question is never: 1 if one is a clash, else 2 if one is unknown. It is 3 for a broken text, and 4 if something could not be
-# read, run or written, or if there is no question. Errors and warnings go to standard error.
+# The exit status is 0 only if every question is never, or with --plan if the files are written: 1 if one is a clash, else 2 if one is unknown. It is 3 for a
+# broken text, and 4 if something could not be read, run or written, or if there is no question. Errors and warnings go to standard error.
 import argparse
 import json
 import os
@@ -51,16 +51,51 @@ def checked(path, content, twice=False, without=(), jobs=1, budget=None):
     return report.result(path, given, these)
 
 
-def warn(options, given, on, found):
-    """What lets a never say nothing: what is declared and not used, and templates that have no name."""
-    for line, message in given.warnings:
-        complain(f"{options.set}:{line}: warning: {message}")
+def nameless(options, given, on, found):
+    """The templates that never clash because they have no name at all."""
     never = {name for entry in found["questions"] if entry["verdict"] == "never" for name in entry["templates"]}
     asked = [question for question in asking.existence(given, on) if question.templates[0] in never]
     brief = solving.solver(options.program, options.budget and min(options.budget, solving.BUDGET))
     asking.ask_all(asked, brief, options.jobs)
-    for (name,) in (question.templates for question in asked if question.verdict == "never"):
-        complain(f"{options.set}:{given.lines[name]}: warning: template '{name}' has no name at all, so that it never clashes says nothing")
+    return [question.templates[0] for question in asked if question.verdict == "never"]
+
+
+def warn(options, given, names):
+    """What lets a never say nothing: what is declared and not used, and templates that have no name."""
+    doubts = [(given.lines[name], f"template '{name}' has no name at all, so that it never clashes says nothing") for name in names]
+    for line, message in sorted(given.warnings + doubts):
+        complain(f"{options.set}:{line}: warning: {message}")
+
+
+def plan(options, these):
+    """Problems for other machines, and their answers: whether some are still missing."""
+    folder = options.plan or options.collect
+    if options.plan and (options.json or options.html):
+        raise Failed("--plan gives no verdict: expected neither --json nor --html")
+    if options.collect and not Path(folder).is_dir():
+        raise Failed(f"{folder} is no folder: expected the one that --plan has filled")
+    waiting = planning.planned(these, folder, solving.BUDGET if options.budget is None else options.budget)
+    if options.plan or waiting:
+        complain(f"{folder}: {report.counted(waiting, 'problem waits', 'problems wait')} for an answer; {planning.JOBS} lists them")
+
+
+def ask(options, these):
+    progress = Progress(len(these))
+    try:
+        asking.ask_all(these, solving.solver(options.program, options.budget), options.jobs, progress)
+    finally:
+        progress.end()
+
+
+def shown(options, found):
+    """Writes the page and prints the verdicts."""
+    if options.html:
+        try:
+            Path(options.html).write_text(page.page(found), encoding="utf-8", errors="backslashreplace")
+        except OSError as error:
+            raise Failed(f"{options.html}: {error.strerror}") from None
+    text = json.dumps(found, indent=2, ensure_ascii=False) if options.json else "\n".join(report.lines(found))
+    said(f"{text}\n".encode(errors="replace"))
 
 
 def check(options):
@@ -70,23 +105,16 @@ def check(options):
     if not these:
         raise Failed(f"{options.set}: one template alone has no question: expected two templates or more, or --twice")
     if options.plan or options.collect:
-        waiting = planning.planned(these, options.plan or options.collect, solving.BUDGET if options.budget is None else options.budget)
-        if options.plan or waiting:
-            complain(f"{options.plan or options.collect}: {report.counted(waiting, 'problem waits', 'problems wait')} for an answer; {planning.JOBS} lists them")
-        if options.plan:
-            return 0
+        plan(options, these)
     else:
-        progress = Progress(len(these))
-        try:
-            asking.ask_all(these, solving.solver(options.program, options.budget), options.jobs, progress)
-        finally:
-            progress.end()
+        ask(options, these)
+    if options.plan:
+        return 0
     found = report.result(options.set, given, these)
-    if options.html:
-        Path(options.html).write_text(page.page(found), encoding="utf-8", errors="backslashreplace")
-    said((json.dumps(found, indent=2, ensure_ascii=False) + "\n" if options.json else "".join(line + "\n" for line in report.lines(found))).encode(errors="replace"))
-    if not options.collect:
-        warn(options, given, on, found)
+    # All is asked before a verdict is said: nothing that fails comes behind it.
+    names = [] if options.collect else nameless(options, given, on, found)
+    shown(options, found)
+    warn(options, given, names)
     return report.STATUSES[found["verdict"]]
 
 

@@ -179,7 +179,11 @@ class Question:
     def give_up(self, case):
         name, _ = self.smaller(case.equation)
         self.verdict = "unknown"
-        tried = f"{self.spent} of {self.problems} problems were spent, split by lengths and letters up to {MOST_SPENT} spent ones or {MOST_PROBLEMS} in all"
+        tried = f"{self.spent} of {self.problems} problems were spent"
+        if name:
+            tried += f", split by lengths and letters up to {MOST_SPENT} spent ones or {MOST_PROBLEMS} in all"
+        else:
+            tried += ", one of them with every length and letter decided"
         self.open = tried + (f"; the part '{name.split()[0]}' keeps it open" if name and not name.startswith("(") else "")
 
 

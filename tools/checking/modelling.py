@@ -9,6 +9,7 @@ from checking import machines
 from checking.classes import reduced
 from checking.equation import extra, uses_of
 from packing import EVERY, KINDS, LIMIT, MOST, Problem
+from solving import Failed
 
 KIND = {word: number for number, (word, _) in enumerate(KINDS, 1)}
 
@@ -376,7 +377,7 @@ def parted(symbols, names, domains):
 
 
 def values(equation, rows, found):
-    """The symbols of every variable, from those of the strings that were found, by name."""
+    """The symbols of every variable, from those of the strings that were found, by name. Raises Failed."""
     given = {}
     for row in rows.values():
         symbols = found[row.name]
@@ -388,7 +389,10 @@ def values(equation, rows, found):
                 given.setdefault(piece, symbols[:length])
             symbols = symbols[length:]
     for name, parts in equation.merged.items():
-        given |= parted(given[name], parts, equation.domains)
+        cut = parted(given[name], parts, equation.domains)
+        if cut is None:
+            raise Failed(f"the answer has a text for {name} that its parts cannot make: a fault of this tool, or of the program")
+        given |= cut
     for name, domain in equation.domains.items():
         if name not in given:
             given[name] = least(domain)

@@ -67,11 +67,16 @@ def cuts(entry):
     return sorted(places), spans
 
 
+def stretch(text):
+    """A stretch of the name, in quotes where it could be taken for something else."""
+    return quoted(text) if any(letter in ' "|\\' for letter in text) else text
+
+
 def derivation(entry):
     """The name, and both derivations under it: a column for each stretch between two cuts, with a bar wherever a piece ends. An empty part is named behind."""
     places, spans = cuts(entry)
     ends = dict(zip(places, range(len(places))))
-    name = [(quoted(entry["name"][a:b])[1:-1], a, b) for a, b in zip(places, places[1:])]
+    name = [(stretch(entry["name"][a:b]), a, b) for a, b in zip(places, places[1:])]
     rows = [("name", name), *zip(entry["templates"], spans)]
     widths = [0] * (len(places) - 1)
     for _, cells in rows:

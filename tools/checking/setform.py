@@ -119,7 +119,10 @@ class Reader(Statements):
         return lengths, tuple(words), machine
 
     def rule(self, line):
-        self.pattern(line, self.declare(line, "rule"))
+        name = self.declare(line, "rule")
+        if line.sees("=") and "=" not in self.symbols:
+            raise line.unexpected("the pattern right behind the name")
+        self.pattern(line, name)
 
     def template(self, line):
         name = self.declare(line, "template")
