@@ -57,7 +57,7 @@ def reported(mistake):
         if text.count(old) != 1:
             raise ValueError(f"{file} has {text.count(old)} times: {old}")
         path.write_text(text.replace(old, new))
-        done = subprocess.run([sys.executable, root / "tests" / "brute.py", "--sets", str(SETS)], stdout=subprocess.PIPE, stderr=subprocess.STDOUT, text=True)
+        done = subprocess.run([sys.executable, root / "tests" / "brute.py", "--brief", "--sets", str(SETS)], stdout=subprocess.PIPE, stderr=subprocess.STDOUT, text=True)
         return done.stdout.splitlines()[:2] if done.returncode else None
 
 

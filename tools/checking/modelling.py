@@ -7,7 +7,7 @@ from typing import NamedTuple
 
 from checking import machines
 from checking.classes import reduced
-from checking.equation import extra, uses_of
+from checking.equation import extra, summed, uses_of
 from packing import EVERY, KINDS, LIMIT, MOST, Problem
 from solving import Failed
 
@@ -365,15 +365,17 @@ def least(domain):
 
 
 def parted(symbols, names, domains):
-    """A text of several variables, one behind the other, as texts of each; any lengths that add up will do. None where no lengths do."""
-    if not names:
-        return None if symbols else {}
-    name, *others = names
-    for length in (n for n in range(len(symbols) + 1) if domains[name].lengths >> n & 1):
-        rest = parted(symbols[length:], others, domains)
-        if rest is not None:
-            return {name: symbols[:length], **rest}
-    return None
+    """A text of several variables, one behind the other, as texts of each, the first ones as short as can be. None where no lengths add up to its own."""
+    behind = [1]  # the lengths of what stands behind each variable, as words, from the last one
+    for name in reversed(names):
+        behind.append(summed(behind[-1], domains[name].lengths))
+    if not behind.pop() >> len(symbols) & 1:
+        return None
+    given = {}
+    for name, rest in zip(names, reversed(behind)):
+        length = next(n for n in range(len(symbols) + 1) if domains[name].lengths >> n & 1 and rest >> len(symbols) - n & 1)
+        given[name], symbols = symbols[:length], symbols[length:]
+    return given
 
 
 def values(equation, rows, found):
