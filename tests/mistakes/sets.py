@@ -17,8 +17,8 @@ MISTAKES = [
     ("first: a part with a rule is lengthened by anything", "equation.py", "free = not domain.machines and len", "free = len"),
     ("first: a part with gaps in its lengths is lengthened by anything", "equation.py", " < 2 and domain.lengths + (1 << lengths[0]) == 1 << lengths[-1] + 1", " < 2"),
     ("first: what stands before the part may differ", "equation.py", "given.same.union(parts[: parts.index(part)])", "given.same"),
-    ("without first: the last place is left out", "equation.py", "enumerate(domain.words, 1)", "enumerate(domain.words[:-1], 1)"),
-    ("without first: the least length is left out", "equation.py", "for length in (n for n in range(LIMIT) if domain", "for length in (n for n in range(1, LIMIT) if domain"),
+    # Leaving one place or one length out would be no mistake: choices that make one name differ in some length, and then on both sides.
+    ("without first: no length is told apart", "equation.py", "for length in (n for n in range(LIMIT) if domain", "for length in (n for n in range(0) if domain"),
     ("same is not looked at", "equation.py", "given.same.intersection(*(parts_of(template) for template in templates))", "set()"),
     ("front: a shared part is taken off before the name's rule has read it", "equation.py", "elif one[0] == other[0] and not whole:", "elif one[0] == other[0]:"),
     ("front: the rule does not read the end", "machines.py", "machine.accepting >> after(machine, q, end) & 1", "machine.accepting >> q & 1"),
