@@ -17,7 +17,7 @@ MISTAKES = [
     ("first: a part with a rule is lengthened by anything", "equation.py", "free = not domain.machines and len", "free = len"),
     ("first: a part with gaps in its lengths is lengthened by anything", "equation.py", " < 2 and domain.lengths + (1 << lengths[0]) == 1 << lengths[-1] + 1", " < 2"),
     ("first: what stands before the part may differ", "equation.py", "given.same.union(parts[: parts.index(part)])", "given.same"),
-    # Leaving one place or one length out would be no mistake: choices that make one name differ in some length, and then on both sides.
+    # Leaving one place or one length out, or one letter of two, would be no mistake: choices that make one name differ in some length, and so on both sides.
     ("without first: no length is told apart", "equation.py", "for length in (n for n in range(LIMIT) if domain", "for length in (n for n in range(0) if domain"),
     ("same is not looked at", "equation.py", "given.same.intersection(*(parts_of(template) for template in templates))", "set()"),
     ("front: a shared part is taken off before the name's rule has read it", "equation.py", "elif one[0] == other[0] and not whole:", "elif one[0] == other[0]:"),
@@ -32,7 +32,6 @@ MISTAKES = [
     ("join: a part of a row need not obey its rule", "modelling.py", "if not behind and not any(part.machine for part in parts):", "if not behind:"),
     ("lengths: the mark is of another length", "modelling.py", "marks = {self.mark(name, lengths): lengths for", "marks = {self.mark(name, lengths): lengths >> 1 for"),
     ("classes: rules tell no letters apart", "classes.py", " + tuple(row[symbol] for row in columns)", ""),
-    ("classes: one letter of a class, though two must differ", "classes.py", "most = 2 if", "most = 1 if"),
     ("product: what one of two rules accepts", "machines.py", "first.accepting >> pair[0] & second.accepting >> pair[1] & 1\n", "(first.accepting >> pair[0] | second.accepting >> pair[1]) & 1\n"),
     ("a counter ends one too early", "machines.py", "high and digit > last[place]:", "high and digit >= last[place]:"),
     ("split: the greatest length is left out", "equation.py", "for length in lengths_of(equation, name):", "for length in lengths_of(equation, name)[:-1]:"),
