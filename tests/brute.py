@@ -153,6 +153,12 @@ BY_HAND = [
         [{"aa"}, set(), set()],
     ),
     (
+        "two rules that no narrowing brings together: only a search, or halves of a letter, show that a name begins with b",
+        "alphabet a b\npart x 4 of a b obeys alike\npart y 4 of a b\nrule alike a(a|b)*a|b(a|b)*b\nrule later a(a|b)*b|b(a|b)*\n"
+        "template s = x obeys later\ntemplate t = y",
+        [{"baab", "babb", "bbab", "bbbb"}, set(), set()],
+    ),
+    (
         "letters in quotes, and signs of patterns in a comment",
         'alphabet é " #" \\ "\\"," # and no more\npart x 1..2 of é " "\nrule odd (é | " ") "#"* \\* # *\n'
         'template s = x "#\\\\" obeys odd\ntemplate t = "é#\\\\"\ntemplate u = "é" ",\\""',
