@@ -283,10 +283,11 @@ def by_letter(equation, name, place):
 
 
 def in_turn(equation):
-    """The variables of both sides, from the front, one side after the other, then what else is named."""
+    """The variables of both sides, from the front, one side after the other, then what else is named, and what was taken off with a rule of its own."""
     one, other = ([piece for piece in side if isinstance(piece, str)] for side in equation.sides)
     turns = [name for i in range(max(len(one), len(other))) for side in (one, other) for name in side[i : i + 1]]
-    return list(dict.fromkeys([*turns, *uses_of(equation)]))
+    ruled = [name for name, domain in equation.domains.items() if domain.machines]
+    return list(dict.fromkeys([*turns, *uses_of(equation), *ruled]))
 
 
 def narrowest(equation):
