@@ -45,7 +45,7 @@ def domain_doubts(text):
 
 def range_doubts(text):
     for name, tokens in text.rules.items():
-        for written in ranges(tokens):
+        for written, _ in ranges(tokens):
             yield text.declared[name], f"rule '{name}' has {written}, which is no range in a pattern, but {written[0]}, two dots and {written[3]}"
 
 

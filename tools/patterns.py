@@ -16,16 +16,8 @@ RANGE = re.compile(r"[a-z]\.\.[a-z]|[A-Z]\.\.[A-Z]|[0-9]\.\.[0-9]")
 
 
 def ranges(tokens):
-    """What is written like a range. In a pattern it is four letters, as it is in quotes everywhere."""
-    return [written for token in tokens if not token.quoted for written in RANGE.findall(token.text)]
-
-
-def refuse_ranges(line, tokens):
-    """Raises Wrong where something is written like a range, for an alphabet that has no dot."""
-    for token in tokens:
-        match = None if token.quoted else RANGE.search(token.text)
-        if match:
-            raise line.wrong(f"a pattern has no ranges: expected each letter by itself, as in (a|b|c), found '{match[0]}'", token.column + match.start())
+    """What is written like a range, each with its column. In a pattern it is four letters, as it is in quotes everywhere."""
+    return [(found[0], token.column + found.start()) for token in tokens if not token.quoted for found in RANGE.finditer(token.text)]
 
 
 def columns(tokens):

@@ -85,7 +85,8 @@ class Statements:
         """The rest of the line as the pattern of a rule."""
         tokens = line.rest()
         if "." not in self.symbols:
-            patterns.refuse_ranges(line, tokens)
+            for written, column in patterns.ranges(tokens):
+                raise line.wrong(f"a pattern has no ranges: expected each letter by itself, as in (a|b|c), found '{written}'", column)
         self.rules[name] = Rule(line, tokens, patterns.translated(line, tokens, lambda letter, column: self.symbol(line, letter, column)))
         self.automata[name] = None  # keeps its position; `make_rules` makes the automaton
 

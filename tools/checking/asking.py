@@ -51,7 +51,7 @@ class Question:
 
     def cases(self, equation):
         """The equation in cases that fit into a problem."""
-        if not equation.machines or all(isinstance(piece, tuple) for piece in equation.front):
+        if not equation.machines or all(map(equations.is_text, equation.front)):
             return self.fitted(equation)
         # With the rules of the name the whole front is part of the problem. Mostly there is no solution without them either.
         return self.tried(equation._replace(machines=()), lambda: self.fitted(equation))
@@ -198,7 +198,7 @@ def derivations(question):
     for side, name in enumerate(question.templates, 1):
         pieces = []
         for piece in question.given.templates[name].pieces:
-            if isinstance(piece, tuple):
+            if equations.is_text(piece):
                 pieces.append((None, list(piece)))
             else:
                 shared = question.values.get(piece)

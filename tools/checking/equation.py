@@ -1,11 +1,14 @@
 # A question about one or two templates as equations: two joined names that are to be one. Each is a problem for the program; a question may take several, and
 # is a clash where one of them has a solution. docs/DECISIONS.md says of each rewriting why it loses no clash and invents none.
 from collections import Counter
+from functools import reduce
+from operator import or_
 from typing import NamedTuple
 
 from checking import machines
 from checking.setform import Domain
 from packing import EVERY, LIMIT, MOST
+from wording import bits
 
 # What may be switched off: the verdict stays, and takes longer or does not fit.
 REWRITINGS = ("first", "front", "join", "lengths", "order", "classes", "product")
@@ -26,6 +29,21 @@ class Equation(NamedTuple):
     long: bool = False  # whether a solution might have more letters than a string of a problem
 
 
+def is_text(piece):
+    """Whether a piece is a fixed text."""
+    return isinstance(piece, tuple)
+
+
+def letters_of(words):
+    """The letters of all places together."""
+    return reduce(or_, words, 0)
+
+
+def alternating(one, other):
+    """The items of two lists from the front, of the one and of the other in turn."""
+    return [item for i in range(max(len(one), len(other))) for items in (one, other) for item in items[i : i + 1]]
+
+
 def variable(part, side):
     """The name of a part's variable on one side. A part's name has no blank and no bracket, so no two variables are called alike."""
     return f"{part} {side}"
@@ -39,18 +57,18 @@ def extra(what, number=""):
 def sides_of(templates, shared):
     """The pieces of two templates, with the variables of each its own but for the shared parts."""
     return tuple(
-        tuple(piece if isinstance(piece, tuple) or piece in shared else variable(piece, side) for piece in template.pieces)
+        tuple(piece if is_text(piece) or piece in shared else variable(piece, side) for piece in template.pieces)
         for side, template in enumerate(templates, 1)
     )
 
 
 def parts_of(template):
     """The parts that a template names, in the order in which they come first."""
-    return list(dict.fromkeys(piece for piece in template.pieces if isinstance(piece, str)))
+    return list(dict.fromkeys(piece for piece in template.pieces if not is_text(piece)))
 
 
 def domains_of(parts, sides):
-    return {piece: parts[piece.split()[0]] for side in sides for piece in side if isinstance(piece, str)}
+    return {piece: parts[piece.split()[0]] for side in sides for piece in side if not is_text(piece)}
 
 
 def pair(given, first, second):
@@ -90,12 +108,9 @@ def first_difference(given, template, part, off):
     short, long, rest = variable(part, 1), variable(part, 2), variable(part, "rest")
     domains = domains_of(given.parts, sides)
     domain = given.parts[part]
-    lengths = [n for n in range(LIMIT) if domain.lengths >> n & 1]
-    letters = 0
-    for word in domain.words:
-        letters |= word
+    lengths = bits(domain.lengths)
     further = sum(1 << n for n in {after - before for before in lengths for after in lengths if before < after})
-    domains[rest] = Domain(further, (letters,) * max(further.bit_length() - 1, 0), ())
+    domains[rest] = Domain(further, (letters_of(domain.words),) * max(further.bit_length() - 1, 0), ())
     if not off:
         return Equation(domains, sides, links=(("cat", short, rest, long),), machines=template.machines)
     cut = tuple(side[place + 1 :] for side in sides)
@@ -113,7 +128,7 @@ def differences(given, template, part):
     sides = sides_of([template] * 2, given.same)
     domains, domain = domains_of(given.parts, sides), given.parts[part]
     one, other = variable(part, 1), variable(part, 2)
-    for length in (n for n in range(LIMIT) if domain.lengths >> n & 1):
+    for length in bits(domain.lengths):
         apart = {one: domain.of_lengths(1 << length), other: domain.of_lengths(domain.lengths & ~(1 << length))}
         yield Equation(domains | apart, sides, machines=template.machines)
     for place, word in enumerate(domain.words, 1):
@@ -126,7 +141,7 @@ def joined_texts(pieces):
     """Neighbouring fixed texts as one."""
     joined = []
     for piece in pieces:
-        if joined and isinstance(piece, tuple) and isinstance(joined[-1], tuple):
+        if joined and is_text(piece) and is_text(joined[-1]):
             joined[-1] += piece
         else:
             joined.append(piece)
@@ -143,7 +158,7 @@ def without_front(sides, whole):
     one, other = map(joined_texts, sides)
     front = []
     while one and other:
-        if isinstance(one[0], tuple) and isinstance(other[0], tuple) and (n := common(one[0], other[0])):
+        if is_text(one[0]) and is_text(other[0]) and (n := common(one[0], other[0])):
             front.append(one[0][:n])
             one, other = (side[1:] if n == len(side[0]) else (side[0][n:], *side[1:]) for side in (one, other))
         elif one[0] == other[0] and not whole:
@@ -155,7 +170,7 @@ def without_front(sides, whole):
 
 
 def turned(pieces):
-    return tuple(piece[::-1] if isinstance(piece, tuple) else piece for piece in reversed(pieces))
+    return tuple(piece[::-1] if is_text(piece) else piece for piece in reversed(pieces))
 
 
 def shortened(equation):
@@ -181,7 +196,7 @@ def multiplied(machines_given):
 def uses_of(equation):
     """How often each variable is named in what is asked; the front only matters to machines."""
     pieces = [*equation.sides[0], *equation.sides[1], *(equation.front if equation.machines else ())]
-    named = [piece for piece in pieces if isinstance(piece, str)] + [name for _, *names in equation.links for name in names if isinstance(name, str)]
+    named = [piece for piece in pieces if not is_text(piece)] + [name for _, *names in equation.links for name in names if isinstance(name, str)]
     return Counter(named)
 
 
@@ -191,7 +206,7 @@ def merged(equation):
 
     def plain(piece):
         """The letters of a variable that is nothing but letters of some lengths, and named once."""
-        if isinstance(piece, tuple) or uses[piece] > 1 or domains[piece].machines or len(set(domains[piece].words)) != 1:
+        if is_text(piece) or uses[piece] > 1 or domains[piece].machines or len(set(domains[piece].words)) != 1:
             return None
         return domains[piece].words[0]
 
@@ -214,7 +229,7 @@ def merged(equation):
 
 def summed(one, other):
     """The lengths of joined texts, as words; what is longer than a string of a problem is left out."""
-    return sum(1 << n for n in {a + b for a in range(LIMIT) if one >> a & 1 for b in range(LIMIT - a) if other >> b & 1})
+    return sum(1 << n for n in {a + b for a in bits(one) for b in bits(other) if a + b < LIMIT})
 
 
 def rewritten(equation, on):
@@ -236,11 +251,8 @@ def loosened(equation, keep, turn):
         kept, left = side[:kept], side[kept:]
         if left:
             name = extra("loose", number)
-            lengths, letters = 1, 0
-            for piece in left:
-                lengths = summed(lengths, 1 << len(piece) if isinstance(piece, tuple) else domains[piece].lengths)
-                for word in (1 << symbol for symbol in piece) if isinstance(piece, tuple) else domains[piece].words:
-                    letters |= word
+            lengths = reduce(summed, (1 << len(piece) & EVERY if is_text(piece) else domains[piece].lengths for piece in left), 1)
+            letters = letters_of(letters_of(1 << symbol for symbol in piece) if is_text(piece) else letters_of(domains[piece].words) for piece in left)
             domains[name] = Domain(lengths, (letters,) * max(lengths.bit_length() - 1, 0), ())
             kept = (*kept, name)
         sides.append(turned(kept) if turn else tuple(kept))
@@ -250,17 +262,18 @@ def loosened(equation, keep, turn):
 
 def longest(pieces, domains):
     """The greatest length of joined pieces."""
-    return sum(len(piece) if isinstance(piece, tuple) else domains[piece].lengths.bit_length() - 1 for piece in pieces)
+    return sum(len(piece) if is_text(piece) else domains[piece].lengths.bit_length() - 1 for piece in pieces)
 
 
 def too_long(equation):
+    """Whether a text of both sides might be longer than a string of a problem, with the front and the end where machines read them."""
     inner = min(longest(side, equation.domains) for side in equation.sides)
     outer = longest(equation.front + equation.end, equation.domains) if equation.machines else 0
     return inner + outer >= LIMIT
 
 
 def lengths_of(equation, name):
-    return [n for n in range(LIMIT) if equation.domains[name].lengths >> n & 1]
+    return bits(equation.domains[name].lengths)
 
 
 def with_domain(equation, name, domain):
@@ -276,7 +289,7 @@ def by_length(equation, name):
 def by_letter(equation, name, place):
     """The equation for the one and the other half of the letters at a place of one variable."""
     domain = equation.domains[name]
-    symbols = [a for a in range(LIMIT) if domain.words[place] >> a & 1]
+    symbols = bits(domain.words[place])
     for half in (symbols[: len(symbols) // 2], symbols[len(symbols) // 2 :]):
         word = sum(1 << a for a in half)
         yield with_domain(equation, name, domain._replace(words=(*domain.words[:place], word, *domain.words[place + 1 :])))
@@ -284,8 +297,7 @@ def by_letter(equation, name, place):
 
 def in_turn(equation):
     """The variables of both sides, from the front, one side after the other, then what else is named, and what was taken off with a rule of its own."""
-    one, other = ([piece for piece in side if isinstance(piece, str)] for side in equation.sides)
-    turns = [name for i in range(max(len(one), len(other))) for side in (one, other) for name in side[i : i + 1]]
+    turns = alternating(*([piece for piece in side if not is_text(piece)] for side in equation.sides))
     ruled = [name for name, domain in equation.domains.items() if domain.machines]
     return list(dict.fromkeys([*turns, *uses_of(equation), *ruled]))
 

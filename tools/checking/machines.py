@@ -1,6 +1,7 @@
 # Automata as values: state 0 is the start, `accepting` has bit q for state q, and moves[q][a] is the state behind symbol a. None of these functions decides a
 # question; they put several statements about one string into one, which the program then decides.
 from functools import cache
+from operator import and_, or_
 from typing import NamedTuple
 
 from packing import Automaton
@@ -65,11 +66,21 @@ def minimal(machine):
     return numbered(groups[0], accepts, lambda group, symbol: groups[machine.moves[member[group]][symbol]], alike)
 
 
+def paired(first, second, accepts):
+    """Both machines at once; whether a pair of states accepts is said from whether each of them does."""
+    states = lambda pair: accepts(first.accepting >> pair[0] & 1, second.accepting >> pair[1] & 1)
+    step = lambda pair, symbol: (first.moves[pair[0]][symbol], second.moves[pair[1]][symbol])
+    return minimal(numbered((0, 0), states, step, kinds(columns(first, second))))
+
+
 def product(first, second):
     """Accepts what both accept."""
-    accepts = lambda pair: first.accepting >> pair[0] & second.accepting >> pair[1] & 1
-    step = lambda pair, symbol: (first.moves[pair[0]][symbol], second.moves[pair[1]][symbol])
-    return minimal(numbered((0, 0), accepts, step, kinds(columns(first, second))))
+    return paired(first, second, and_)
+
+
+def union(first, second):
+    """Accepts what one of the two accepts."""
+    return paired(first, second, or_)
 
 
 def after(machine, state, symbols):
@@ -141,10 +152,3 @@ def counter(first, last, symbols, k):
         return place + 1, low and digit == first[place], high and digit == last[place]
 
     return minimal(numbered((0, True, True), lambda state: state is not None and state[0] == len(first), step, range(k)))
-
-
-def union(first, second):
-    """Accepts what one of the two accepts."""
-    accepts = lambda pair: first.accepting >> pair[0] & 1 | second.accepting >> pair[1] & 1
-    step = lambda pair, symbol: (first.moves[pair[0]][symbol], second.moves[pair[1]][symbol])
-    return minimal(numbered((0, 0), accepts, step, kinds(columns(first, second))))

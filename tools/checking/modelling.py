@@ -7,9 +7,10 @@ from typing import NamedTuple
 
 from checking import machines
 from checking.classes import reduced
-from checking.equation import extra, summed, uses_of
+from checking.equation import alternating, extra, is_text, summed, uses_of
 from packing import EVERY, KINDS, LIMIT, MOST, Problem
 from solving import Failed
+from wording import bits
 
 KIND = {word: number for number, (word, _) in enumerate(KINDS, 1)}
 
@@ -56,10 +57,6 @@ class Model:
         self.state("regular", name, self.machines.index(machine))
 
 
-def is_text(piece):
-    return isinstance(piece, tuple)
-
-
 def width(piece, domains):
     """The length of a piece, or None where it has several."""
     if is_text(piece):
@@ -104,7 +101,7 @@ def unrestricted(part, k):
 def spread(before, domain, behind):
     """The letters of each place, where a stretch of several lengths stands between fixed ones: what stands behind it comes to lie at several places."""
     words = before + list(domain.words) + [0] * len(behind)
-    for length in (n for n in range(LIMIT) if domain.lengths >> n & 1):
+    for length in bits(domain.lengths):
         for i, word in enumerate(behind):
             words[len(before) + length + i] |= word
     return tuple(words)
@@ -151,7 +148,7 @@ def rows_of(pieces, domains, uses, k, join):
 def texts_of(row, domains, turn):
     """The letters of a row's places for each of its lengths; turned, from its end."""
     open_piece = next((piece for piece in row.pieces if width(piece, domains) is None), None)
-    for length in [n for n in range(LIMIT) if domains[open_piece].lengths >> n & 1] if open_piece else [0]:
+    for length in bits(domains[open_piece].lengths) if open_piece else [0]:
         words = []
         for piece in row.pieces:
             words += [1 << a for a in piece] if is_text(piece) else domains[piece].words[: length if piece == open_piece else None]
@@ -164,14 +161,13 @@ def apart(sides, domains, turn):
     return not any(all(a & b for a, b in zip(*words)) for words in product(texts_of(one, domains, turn), texts_of(other, domains, turn)))
 
 
-def in_turn(sides, turn):
+def deciding(sides, turn):
     """The rows of several lengths in the order in which their lengths are to be decided: from the front, or turned from the end, one side after the other. The
     last one follows from the others; from the end the length of the whole is decided first, so that the last of each side follows."""
     one, other = ([row for row in rows[:: -1 if turn else 1] if not row.decided()] for rows in sides)
     if turn:
         one, other = one[:-1], other[:-1]
-    turns = [row for i in range(max(len(one), len(other))) for rows in (one, other) for row in rows[i : i + 1]]
-    turns = list({row.name: row for row in turns}.values())
+    turns = list({row.name: row for row in alternating(one, other)}.values())
     return turns if turn else turns[:-1]
 
 
@@ -289,7 +285,7 @@ class Builder:
             return {}, []
         model = self.model
         turn = whole not in model.rows and all(sides) and (self.turn or apart(sides, self.equation.domains, True))
-        turns = [(row.name, row.lengths) for row in in_turn(sides, turn)]
+        turns = [(row.name, row.lengths) for row in deciding(sides, turn)]
         if not turns:
             return {}, []
         # The last one needs no mark: its own length is decided before any letter.
