@@ -8,6 +8,7 @@ command -v cargo > /dev/null || PATH="$PATH:${CARGO_HOME:-${HOME:-}/.cargo}/bin"
 export PATH
 
 python3 tests/documents.py || exit 1
+python3 tests/proofs.py || exit 1
 python3 tests/edges.py || exit 1
 python3 tests/nodes.py || exit 1
 python3 tests/settlings.py || exit 1

@@ -34,9 +34,9 @@
  * it has as many elements as the count says, and no memory that an entry writes overlaps other memory that it is given. Given that, every call ends and
  * touches nothing else; no entry keeps a pointer, allocates, or has state of its own, so calls on separate buffers may run at once.
  *
- * Stack. Search goes deepest: 24,704 bytes below its caller, measured on problems at every limit (bench/stack.py); one Regular constraint on a string of 63
- * symbols is enough for that, and the entries that step and settle then take some 4,000 less. Compile takes 14,944 on 63 letters side by side. A thread that
- * calls them should have COBLESKEG_STACK bytes of stack, or more where the caller itself needs much.
+ * Stack. Perform goes deepest: 24,832 bytes below its caller, measured on problems at every limit (bench/stack.py); one Regular constraint on a string of 63
+ * symbols is enough for that. Settle and Search take nearly as much, Step some 4,000 less, and Compile 14,944 on 63 letters side by side. A thread that calls
+ * them should have COBLESKEG_STACK bytes of stack, or more where the caller itself needs much.
  */
 #ifndef COBLESKEG_H
 #define COBLESKEG_H

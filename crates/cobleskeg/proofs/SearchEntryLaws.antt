@@ -1,13 +1,12 @@
 -- What Search answers and leaves, by what looking over the file and the lent buffers gave, and that its answer keeps demand 3. Assumes nothing.
-use mathlib.Core.Path.{_≡_, refl, sym, ap, subst, _∙_}
-use mathlib.Core.Bool.{true}
+use mathlib.Core.Path.{_≡_, refl, sym, ap, _∙_}
 use mathlib.Core.List.{List, _++_}
 use Prim.Native.Nat.{ℕ, _+_, _*_, _≤_, _<_}
 use native.Mathlib.Omega.{arith}
 use lib.Dec.{eqb, leb}
 use lib.ListN.{length, replicate, drop}
 use borrow.Author.Tests.{le-leb, lt-leb, eq-eqb, ne-eqb}
-use Rattle.model.specs.Constraints.{Problem, width}
+use Rattle.model.specs.Constraints.{width}
 use Rattle.model.specs.Tree.{Outcome, found, none, spent, Search, searching}
 use Rattle.model.specs.Replies.{refused, answered, require, andThen, leaves}
 use Rattle.model.specs.Layout.{Bytes}

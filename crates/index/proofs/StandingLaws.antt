@@ -8,7 +8,7 @@ use lib.ListN.{length, getD, take}
 use lib.Seq.{getD-take, length-take-le}
 use Rattle.model.specs.Words.{union}
 use Rattle.model.specs.Domains.{Variable, str, num}
-use Rattle.model.specs.Constraints.{Problem, variables}
+use Rattle.model.specs.Constraints.{Problem}
 use Rattle.model.specs.Solutions.{InRange}
 use Rattle.laws.specs.Inclusion.{In}
 use Rattle.laws.proofs.ListLaws.{getD-in}

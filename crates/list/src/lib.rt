@@ -17,7 +17,7 @@ ghost use Rattle.model.specs.Operations.{stepAt};
 ghost use Rattle.laws.specs.Lent.{lendable};
 ghost use Rattle.layout.specs.declared.Parts.{Parts};
 ghost use Rattle.format.specs.Accepting.{problemIn, Usable};
-ghost use Rattle.steps.specs.Step.{Step};
+ghost use Rattle.steps.specs.Step.{Step, KindsIn};
 ghost use Rattle.list.specs.Listed.{meaning, OfFile, Listed};
 
 // A record of the file: its kind, then its arguments, unused ones 0.
@@ -111,35 +111,47 @@ pub fn step(file: &[u8], p: layout::Parts, j: usize, table: &mut [u64]) -> u32
     }
 }
 
-// The step of one constraint of the file, not counted: what a walk over all of them makes.
-fn record_apply(c: Constraint, file: &[u8], p: layout::Parts, table: &mut [u64])
-    requires { ⌜ Usable (now file) p × (lendable (problemIn (now file) p) (now table) ≡ true) × OfFile (now file) p c ⌝ }
+// The step of one constraint of the file, not counted: what a walk over all of them makes, with the kinds of symbols that are lent for the whole walk.
+fn record_apply(c: Constraint, file: &[u8], p: layout::Parts, kinds: &[u64], table: &mut [u64])
+    requires { ⌜ Usable (now file) p × (lendable (problemIn (now file) p) (now table) ≡ true) × KindsIn (now file) p (now kinds) × OfFile (now file) p c ⌝ }
     ensures { λ r. ⌜ ((d : Meant) → meaning p c ≡ some d → now (table .exit) ≡ narrowed (problemIn (now (file .entry)) p) d (now (table .entry))) ⌝ }
 {
     let records::Decoded::Constraint(r) = records::decode(c.kind, c.x, c.y, c.z, p.s, p.t, p.d)
     else {
         return;
     };
-    steps::apply(file, p, r, table)
+    steps::apply(file, p, kinds, r, table)
 }
 
 // The steps of all the file's constraints, in their order.
-pub fn lent_steps(cs: &[Constraint], file: &[u8], p: layout::Parts, table: &mut [u64])
-    requires { ⌜ Usable (now file) p × (lendable (problemIn (now file) p) (now table) ≡ true) × Listed (now file) p (now cs) ⌝ }
+pub fn lent_steps(
+    cs: &[Constraint],
+    file: &[u8],
+    p: layout::Parts,
+    kinds: &[u64],
+    table: &mut [u64],
+)
+    requires { ⌜ Usable (now file) p × (lendable (problemIn (now file) p) (now table) ≡ true) × KindsIn (now file) p (now kinds) × Listed (now file) p (now cs) ⌝ }
     ensures { λ r. ⌜ now (table .exit) ≡ run (problemIn (now (file .entry)) p) (problemIn (now (file .entry)) p .constraints) (now (table .entry)) ⌝ }
 {
     let mut j: usize = 0;
     while j < p.c {
         let c = cs[j];
-        record_apply(c, file, p, table);
+        record_apply(c, file, p, kinds, table);
         j += 1;
     }
 }
 
 // The same of a list by value, which it lends.
-pub fn own_steps(cs: [Constraint; 64], file: &[u8], p: layout::Parts, table: &mut [u64])
-    requires { ⌜ Usable (now file) p × (lendable (problemIn (now file) p) (now table) ≡ true) × Listed (now file) p cs ⌝ }
+pub fn own_steps(
+    cs: [Constraint; 64],
+    file: &[u8],
+    p: layout::Parts,
+    kinds: &[u64],
+    table: &mut [u64],
+)
+    requires { ⌜ Usable (now file) p × (lendable (problemIn (now file) p) (now table) ≡ true) × KindsIn (now file) p (now kinds) × Listed (now file) p cs ⌝ }
     ensures { λ r. ⌜ now (table .exit) ≡ run (problemIn (now (file .entry)) p) (problemIn (now (file .entry)) p .constraints) (now (table .entry)) ⌝ }
 {
-    lent_steps(&cs, file, p, table)
+    lent_steps(&cs, file, p, kinds, table)
 }

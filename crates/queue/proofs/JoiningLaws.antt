@@ -1,18 +1,16 @@
 -- The steps that join the queue, as the bits of two words: those of the index for the variables of the step that was run, without those that wait. Assumes nothing.
 use mathlib.Core.Path.{_≡_, refl, sym, ap, subst, _∙_}
-use mathlib.Core.Logic.{_⊎_, ⊎-elim}
-use mathlib.Core.Bool.{Bool, true, false, cond, not, _&&_, _||_, false≢true}
+use mathlib.Core.Bool.{Bool, true, false, cond, not, _&&_, _||_}
 use mathlib.Core.List.{List, [], _∷_, _++_, map, append-nil, List·Memᴰ·head, List·Memᴰ·tail, Memᴰ·map, Memᴰ·of-map}
 use Prim.Native.Nat.{ℕ, zero, suc, _+_, _-_, _*_, _^_, _≤_, _<_}
 use native.Mathlib.Omega.{arith}
 use lib.Bits.{bitAnd}
 use lib.Dec.{eqb, ltb}
-use lib.ListN.{length, getD}
-use borrow.Author.Tests.{ltb-true, ltb-false, lt-ltb, le-ltb}
+use borrow.Author.Tests.{ltb-true, lt-ltb, le-ltb}
 use Rattle.model.specs.Lists.{any, select, from, upto}
 use Rattle.model.specs.Words.{bit, bits, word, union}
 use Rattle.model.specs.Domains.{Variable}
-use Rattle.model.specs.Constraints.{Problem, Constraint, variables}
+use Rattle.model.specs.Constraints.{Problem, variables}
 use Rattle.model.specs.Solutions.{InRange, WellFormed}
 use Rattle.model.specs.Operations.{stepAt, stepCount}
 use Rattle.model.specs.StepIndex.{stepTouches, touching, wordFrom, indexOf}

@@ -11,7 +11,7 @@ use lib.ListN.{length, getD, take, drop}
 use lib.Pow.{pow-lt}
 use borrow.Author.Tests.{eqb-true, eq-eqb, ne-eqb, ltb-true, ltb-false, lt-ltb, le-ltb}
 use Rattle.model.specs.Words.{bit, bits, word, union}
-use Rattle.model.specs.Domains.{Variable, str}
+use Rattle.model.specs.Domains.{str}
 use Rattle.model.specs.Constraints.{Problem, Constraint, always, variables}
 use Rattle.model.specs.Solutions.{WellFormed}
 use Rattle.model.specs.Layout.{part}

@@ -7,13 +7,13 @@ use native.Mathlib.Nat.{mul-le-mul}
 use native.Mathlib.Omega.{arith}
 use lib.Dec.{ltb}
 use lib.ListN.{length, getD}
-use borrow.Author.Tests.{ltb-true, lt-ltb, ltb-false, le-ltb}
+use borrow.Author.Tests.{ltb-true, lt-ltb}
 use Rattle.model.specs.Lists.{upto}
-use Rattle.model.specs.Words.{bit, Words, size}
-use Rattle.model.specs.Constraints.{Problem, always, width}
+use Rattle.model.specs.Words.{bit, size}
+use Rattle.model.specs.Constraints.{Problem, width}
 use Rattle.model.specs.Support.{narrowed, struck}
 use Rattle.model.specs.Operations.{stepAt, stepCount}
-use Rattle.model.specs.Queue.{joining, waitingAfter, Ran, running, queueing}
+use Rattle.model.specs.Queue.{waitingAfter, Ran, running, queueing}
 use Rattle.laws.specs.Inclusion.{In, Below}
 use Rattle.laws.specs.Lent.{lendable}
 use Rattle.laws.specs.Line.{waits, Line}
@@ -26,7 +26,7 @@ use Rattle.laws.proofs.QueueLaws.{upto-length, in-waits, waits-in, line-all, li
 use Rattle.striking.specs.Strikes.{Strikes, TrimmedIn}
 use Rattle.queue.specs.declared.Pair.{Pair}
 use Rattle.queue.specs.declared.Queue.{Queue}
-use Rattle.queue.specs.Ring.{held, Filled, Marks, numbers, Joins, Ring, Full, Advanced, Turned}
+use Rattle.queue.specs.Ring.{held, Marks, numbers, Joins, Ring, Full, Advanced, Turned}
 use Rattle.queue.proofs.RingLaws.{filled-all}
 use Rattle.queue.proofs.TurnLaws.{front, no-front, front-is, front-step}
 

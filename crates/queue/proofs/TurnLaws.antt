@@ -1,19 +1,18 @@
 -- A turn of the queue: the front of the line that the ring holds, and the line after it. Assumes nothing.
 use mathlib.Core.Path.{_≡_, refl, sym, ap, subst, _∙_}
 use mathlib.Core.Logic.{_≢_, ⊎-elim}
-use mathlib.Core.Bool.{Bool, true, false, not, _&&_, _||_, false≢true}
-use mathlib.Core.List.{List, [], _∷_, _++_, map, append-assoc, append-nil, List·Memᴰ·head, Memᴰ·map, Memᴰ·of-map, head-eq-of-cons-eq, tail-eq-of-cons-eq}
-use Prim.Native.Nat.{ℕ, zero, suc, _+_, _-_, _*_, _%_, _^_, _≤_, _<_}
+use mathlib.Core.Bool.{Bool, true, false, not, _&&_, _||_}
+use mathlib.Core.List.{List, [], _∷_, _++_, map, append-assoc, List·Memᴰ·head, Memᴰ·map, Memᴰ·of-map, head-eq-of-cons-eq, tail-eq-of-cons-eq}
+use Prim.Native.Nat.{ℕ, suc, _+_, _-_, _*_, _%_, _≤_, _<_}
 use native.Mathlib.Omega.{arith}
-use lib.Bits.{bitOr, bitAnd}
-use lib.Dec.{eqb, ltb}
+use lib.Bits.{bitOr}
+use lib.Dec.{eqb}
 use lib.ListN.{length, getD, length-append, length-map}
-use borrow.Author.Tests.{eqb-true, eqb-false, eq-eqb, ne-eqb}
+use borrow.Author.Tests.{eqb-true}
 use Rattle.model.specs.Lists.{any}
 use Rattle.model.specs.Words.{bit, bits}
 use Rattle.model.specs.Constraints.{Problem}
-use Rattle.model.specs.Operations.{stepAt, stepCount}
-use Rattle.model.specs.Queue.{joining, waitingAfter}
+use Rattle.model.specs.Operations.{stepCount}
 use Rattle.laws.specs.Inclusion.{In}
 use Rattle.laws.specs.Line.{waits, Line}
 use Rattle.laws.proofs.ListLaws.{or-true}

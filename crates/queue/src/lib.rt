@@ -14,6 +14,7 @@ ghost use Rattle.model.specs.StepIndex.{indexOf};
 ghost use Rattle.model.specs.Queue.{queueing};
 ghost use Rattle.laws.specs.Lent.{lendable};
 ghost use Rattle.format.specs.Accepting.{problemIn, Usable};
+ghost use Rattle.steps.specs.Step.{KindsIn};
 ghost use Rattle.striking.specs.Strikes.{TrimmedIn};
 ghost use Rattle.queue.specs.Ring.{Filled, Appended, Without, Places, Joins, Ring, Full, Advanced, Turned};
 
@@ -137,18 +138,19 @@ fn turn(
     file: &[u8],
     p: layout::Parts,
     index: &[u64],
+    kinds: &[u64],
     ring: &mut [u8],
     q: Queue,
     table: &mut [u64],
 ) -> Queue
     requires { ⌜ Usable (now file) p × (lendable (problemIn (now file) p) (now table) ≡ true) × (now index ≡ indexOf (problemIn (now file) p))
-        × TrimmedIn (problemIn (now file) p) (q .trimmed) (now table) × ((js : List ℕ) × Ring (problemIn (now file) p) (now ring) q js) × (q .head < q .tail)
-        × (q .head < 4294960000) ⌝ }
+        × KindsIn (now file) p (now kinds) × TrimmedIn (problemIn (now file) p) (q .trimmed) (now table)
+        × ((js : List ℕ) × Ring (problemIn (now file) p) (now ring) q js) × (q .head < q .tail) × (q .head < 4294960000) ⌝ }
     ensures { λ r. ⌜ Turned (problemIn (now (file .entry)) p) (now (table .entry)) (now (table .exit)) (now (ring .entry)) (now (ring .exit)) q r ⌝ }
 {
     let head = q.head;
     let j = ring[head % 128] as usize;
-    let s = striking::step(file, p, j, q.trimmed, table);
+    let s = striking::step(file, p, kinds, j, q.trimmed, table);
     let more = joiners(file, p, index, q.low, q.high, j, s.changed);
     advance(ring, q, j, more, s.trimmed)
 }
@@ -183,16 +185,18 @@ fn all(ring: &mut [u8], n: usize) -> Queue
     }
 }
 
-// Runs steps until none waits; how many.
+// Runs steps until none waits; how many. The kinds of symbols are made once, for all of them.
 pub fn settle(file: &[u8], p: layout::Parts, index: &[u64], table: &mut [u64]) -> u32
     requires { ⌜ Usable (now file) p × (lendable (problemIn (now file) p) (now table) ≡ true) × (now index ≡ indexOf (problemIn (now file) p)) ⌝ }
     ensures { λ r. ⌜ r ≡ queueing (problemIn (now (file .entry)) p) (now (table .entry)) .steps ⌝ }
     ensures { λ r. ⌜ now (table .exit) ≡ queueing (problemIn (now (file .entry)) p) (now (table .entry)) .table ⌝ }
 {
+    let mut kinds = [0u64; 512];
+    steps::kinds(file, p, &mut kinds);
     let mut ring: [u8; 128] = [0; 128];
     let mut q = all(&mut ring, p.c + p.s);
     while q.head < q.tail {
-        q = turn(file, p, index, &mut ring, q, table);
+        q = turn(file, p, index, &kinds, &mut ring, q, table);
     }
     q.head as u32
 }

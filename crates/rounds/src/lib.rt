@@ -25,20 +25,22 @@ fn bits(table: &[u64]) -> u32
 }
 
 // How many rounds there are, the last included, which is the first that leaves as many bits as there were: no step adds one, so it struck nothing. A variable
-// that has lost its last value does not end them.
+// that has lost its last value does not end them. The kinds of symbols are made once, for the steps of all rounds.
 pub fn settle(file: &[u8], p: layout::Parts, table: &mut [u64]) -> u32
     requires { ⌜ Usable (now file) p × (lendable (problemIn (now file) p) (now table) ≡ true) ⌝ }
     ensures { λ r. ⌜ r ≡ settling (problemIn (now (file .entry)) p) (now (table .entry)) .rounds ⌝ }
     ensures { λ r. ⌜ now (table .exit) ≡ settled (problemIn (now (file .entry)) p) (now (table .entry)) ⌝ }
 {
     let constraints = list::of_file(file, p);
+    let mut kinds = [0u64; 512];
+    steps::kinds(file, p, &mut kinds);
     let mut n: u32 = 1;
     let mut before = bits(table);
     let rounds = loop {
         for x in 0..p.s {
             steps::trim_row(table, x);
         }
-        list::own_steps(constraints, file, p, table);
+        list::own_steps(constraints, file, p, &kinds, table);
         let after = bits(table);
         if after == before {
             break n;

@@ -1,7 +1,7 @@
 -- The queue of steps ends in the settled table: a step that does not wait strikes nothing, so where none waits no step does. Assumes nothing.
 use mathlib.Core.Path.{_≡_, refl, sym, ap, subst, _∙_}
 use mathlib.Core.Logic.{_≢_}
-use mathlib.Core.Bool.{Bool, true, false, not, false≢true}
+use mathlib.Core.Bool.{true, false, not, false≢true}
 use mathlib.Core.List.{List, [], _∷_, map, List·Memᴰ·head, List·Memᴰ·tail, Memᴰ·append-left, Memᴰ·append-right, Memᴰ·of-map}
 use Prim.Native.Nat.{ℕ, zero, suc, _+_, _*_, _≤_, _<_}
 use native.Mathlib.Omega.{arith}
@@ -18,7 +18,7 @@ use Rattle.model.specs.Rounds.{steps, settled}
 use Rattle.model.specs.Operations.{stepAt, stepCount}
 use Rattle.model.specs.StepIndex.{stepTouches}
 use Rattle.model.specs.Queue.{sharing, joining, waitingAfter, Ran, running, queueing}
-use Rattle.laws.specs.Inclusion.{In, Below}
+use Rattle.laws.specs.Inclusion.{In}
 use Rattle.laws.specs.Lent.{Stable}
 use Rattle.laws.specs.Line.{waits}
 use Rattle.laws.proofs.ListLaws.{in-any, in-select, of-upto, in-upto, from-getD, true-and}
@@ -29,7 +29,7 @@ use Rattle.laws.proofs.StepNumberLaws.{step-in, in-step}
 use Rattle.laws.proofs.StepIndexLaws.{in-stepTouches}
 use Rattle.laws.proofs.QueueLaws.{upto-length, in-waits, waits-not, not-in, Steps, waiting-steps, next-cost, running-none, running-next, queueing-below, queueing-above}
 use Rattle.shortcuts.specs.Waiting.{Apart, Resting}
-use Rattle.shortcuts.proofs.LocalLaws.{Ranged, apart-unchanged}
+use Rattle.shortcuts.proofs.LocalLaws.{apart-unchanged}
 use Rattle.shortcuts.proofs.WaitLaws.{ranged-step, Wakes, resting-turn}
 
 -- neither the first nor any behind it

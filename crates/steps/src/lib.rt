@@ -244,13 +244,13 @@ fn narrow_any(
 }
 
 // The step of the constraint that a record of the file is, on any table: where no choice is left, every bit of what the record names is struck.
-pub fn apply(file: &[u8], p: layout::Parts, r: records::Record, table: &mut [u64])
-    requires { ⌜ Usable (now file) p × (lendable (problemIn (now file) p) (now table) ≡ true) × In (constraintOf r) (problemIn (now file) p .constraints) ⌝ }
+pub fn apply(file: &[u8], p: layout::Parts, kinds: &[u64], r: records::Record, table: &mut [u64])
+    requires { ⌜ Usable (now file) p × (lendable (problemIn (now file) p) (now table) ≡ true) × KindsIn (now file) p (now kinds)
+        × In (constraintOf r) (problemIn (now file) p .constraints) ⌝ }
     ensures { λ n. ⌜ now (table .exit) ≡ narrowed (problemIn (now (file .entry)) p) (constraintOf r) (now (table .entry)) ⌝ }
 {
     let m = of_record(r, p.s);
-    let none = [0u64; 1];
-    if !narrow_any(file, p, &none[..0], r, m, table) {
+    if !narrow_any(file, p, kinds, r, m, table) {
         clear(table, m);
     }
 }
@@ -262,6 +262,7 @@ pub fn step(file: &[u8], p: layout::Parts, r: records::Record, table: &mut [u64]
 {
     let m = of_record(r, p.s);
     let before = count(table, m);
-    apply(file, p, r, table);
+    let none = [0u64; 1];
+    apply(file, p, &none[..0], r, table);
     before - count(table, m)
 }

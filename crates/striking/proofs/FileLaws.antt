@@ -1,6 +1,5 @@
 -- Steps of a file by their numbers: the record of a constraint, and what each function asks. Assumes nothing.
 use mathlib.Core.Path.{_≡_, refl, sym, subst, _∙_}
-use mathlib.Core.Logic.{inl}
 use mathlib.Core.Bool.{Bool, true, false, _||_}
 use mathlib.Core.List.{List, [], _∷_}
 use mathlib.Core.Option.{Option·some-injective, Option·none-ne-some}
@@ -67,8 +66,8 @@ module _ (file : List ℕ) (p : Parts) (r : Record) (T : List ℕ) (bytes : Byte
   -- ---- its strings are trimmed: each is tidy, or one has no length
 
   module _ (trimmed : TrimmedOf P c T) {all : Bool} (l : Lengths (texts m) T all) where
-    pub narrow-asks : all ≡ true → Usable file p × (lendable P T ≡ true) × KindsIn file p [] × In c (P .constraints) × TidyIn c T
-    narrow-asks q = (pre .0, pre .1, inl refl, pre .2, λ x i. tidy-string P T x long bd (ranged (str x) i) (trimmed x i) (l .each q x (text-named naming i)))
+    pub narrow-asks : {ks : List ℕ} → KindsIn file p ks → all ≡ true → Usable file p × (lendable P T ≡ true) × KindsIn file p ks × In c (P .constraints) × TidyIn c T
+    narrow-asks kinds q = (pre .0, pre .1, kinds, pre .2, λ x i. tidy-string P T x long bd (ranged (str x) i) (trimmed x i) (l .each q x (text-named naming i)))
 
     pub no-choice-left : all ≡ false → (n : Change) → n .left ≡ false → Narrows P c T T n
     no-choice-left q n e = let x = l .none q in narrows-none P c T (x .0) (named-text naming (x .1)) (x .2) n e
@@ -85,8 +84,9 @@ module _ (file : List ℕ) (p : Parts) (r : Record) (T : List ℕ) (bytes : Byte
     pub inside-trimmed : Inside m T₁
     inside-trimmed = inside-of file p r T bytes bd pre m named T₁ same-length
 
-    pub asks-trimmed : Usable file p × (lendable P T₁ ≡ true) × In c (P .constraints) × Naming (p .s) c m × TrimmedOf P c T₁
-    asks-trimmed = (pre .0, lendable-below P T₁ T (trimmed-below ranged naming start t) (pre .1), pre .2, named, trimmed-of ranged naming start t)
+    pub asks-trimmed : {ks : List ℕ} → KindsIn file p ks
+        → Usable file p × (lendable P T₁ ≡ true) × KindsIn file p ks × In c (P .constraints) × Naming (p .s) c m × TrimmedOf P c T₁
+    asks-trimmed kinds = (pre .0, lendable-below P T₁ T (trimmed-below ranged naming start t) (pre .1), kinds, pre .2, named, trimmed-of ranged naming start t)
 
     module _ {U : List ℕ} {n : Change} (s : Narrows P c T₁ U n) where
       pub inside-narrowed : Inside m U
@@ -138,10 +138,12 @@ module _ (file : List ℕ) (p : Parts) (T : List ℕ) (j w : ℕ) (bd : Words T)
       is : constraintOf r ≡ getD (Q .constraints) j (always 0)
       is = Option·some-injective _ _ (sym (is-constraint e q) ∙ usable-record file p (pre .0) j less)
 
-      pub constraint-asks : Usable file p × (lendable Q T ≡ true) × In (constraintOf r) (Q .constraints) × TrimmedIn Q w T
-      constraint-asks = (
+      pub constraint-asks : {ks : List ℕ} → KindsIn file p ks
+          → Usable file p × (lendable Q T ≡ true) × KindsIn file p ks × In (constraintOf r) (Q .constraints) × TrimmedIn Q w T
+      constraint-asks kinds = (
         pre .0,
         pre .1,
+        kinds,
         subst (λ (c : Constraint). In c (Q .constraints)) (sym is) (getD-in (Q .constraints) j (always 0) (omega (arith, usable-counts file p (pre .0) .constraints))),
         pre .3,
       )

@@ -12,7 +12,7 @@ ghost use Rattle.laws.specs.Inclusion.{In};
 ghost use Rattle.laws.specs.Lent.{lendable};
 ghost use Rattle.records.specs.Records.{constraintOf};
 ghost use Rattle.format.specs.Accepting.{problemIn, Usable};
-ghost use Rattle.steps.specs.Step.{Narrows};
+ghost use Rattle.steps.specs.Step.{Narrows, KindsIn};
 ghost use Rattle.steps.specs.Names.{texts, numbers, Naming, Inside};
 ghost use Rattle.striking.specs.Strikes.{Strikes, TrimmedIn};
 ghost use Rattle.striking.specs.Named.{Trimming, TrimmedOf, Lengths, firsts, Holds};
@@ -92,38 +92,40 @@ fn holds(table: &[u64], m: steps::Names) -> bool
 fn narrow(
     file: &[u8],
     p: layout::Parts,
+    kinds: &[u64],
     r: records::Record,
     m: steps::Names,
     table: &mut [u64],
 ) -> inplace::Change
-    requires { ⌜ Usable (now file) p × (lendable (problemIn (now file) p) (now table) ≡ true) × In (constraintOf r) (problemIn (now file) p .constraints)
-        × Naming (p .s) (constraintOf r) m × TrimmedOf (problemIn (now file) p) (constraintOf r) (now table) ⌝ }
+    requires { ⌜ Usable (now file) p × (lendable (problemIn (now file) p) (now table) ≡ true) × KindsIn (now file) p (now kinds)
+        × In (constraintOf r) (problemIn (now file) p .constraints) × Naming (p .s) (constraintOf r) m
+        × TrimmedOf (problemIn (now file) p) (constraintOf r) (now table) ⌝ }
     ensures { λ n. ⌜ Narrows (problemIn (now (file .entry)) p) (constraintOf r) (now (table .entry)) (now (table .exit)) n ⌝ }
 {
     if !have_lengths(table, m) {
         return inplace::nothing();
     }
-    let none = [0u64; 1];
-    steps::narrow(file, p, &none[..0], r, table)
+    steps::narrow(file, p, kinds, r, table)
 }
 
 // The step of a constraint. Where no choice is left, every bit of what it names is struck: that is none just where nothing was there once the strings were trimmed.
 fn constraint(
     file: &[u8],
     p: layout::Parts,
+    kinds: &[u64],
     r: records::Record,
     known: u64,
     table: &mut [u64],
 ) -> Struck
-    requires { ⌜ Usable (now file) p × (lendable (problemIn (now file) p) (now table) ≡ true) × In (constraintOf r) (problemIn (now file) p .constraints)
-        × TrimmedIn (problemIn (now file) p) known (now table) ⌝ }
+    requires { ⌜ Usable (now file) p × (lendable (problemIn (now file) p) (now table) ≡ true) × KindsIn (now file) p (now kinds)
+        × In (constraintOf r) (problemIn (now file) p .constraints) × TrimmedIn (problemIn (now file) p) known (now table) ⌝ }
     ensures { λ u. ⌜ Strikes (problemIn (now (file .entry)) p) (constraintOf r) (now (table .entry)) (now (table .exit)) (u .changed) ⌝ }
     ensures { λ u. ⌜ TrimmedIn (problemIn (now (file .entry)) p) (u .trimmed) (now (table .exit)) ⌝ }
 {
     let m = steps::of_record(r, p.s);
     let t = trim_named(table, m, known);
     let held = holds(table, m); // before the step, which where no choice is left leaves anything
-    let n = narrow(file, p, r, m, table);
+    let n = narrow(file, p, kinds, r, m, table);
     if !n.left {
         steps::clear(table, m);
         return Struck {
@@ -139,8 +141,15 @@ fn constraint(
 }
 
 // Step j: constraint j below c, else the trimming of string j - c.
-pub fn step(file: &[u8], p: layout::Parts, j: usize, trimmed: u64, table: &mut [u64]) -> Struck
-    requires { ⌜ Usable (now file) p × (lendable (problemIn (now file) p) (now table) ≡ true) × (j < p .c + p .s)
+pub fn step(
+    file: &[u8],
+    p: layout::Parts,
+    kinds: &[u64],
+    j: usize,
+    trimmed: u64,
+    table: &mut [u64],
+) -> Struck
+    requires { ⌜ Usable (now file) p × (lendable (problemIn (now file) p) (now table) ≡ true) × KindsIn (now file) p (now kinds) × (j < p .c + p .s)
         × TrimmedIn (problemIn (now file) p) trimmed (now table) ⌝ }
     ensures { λ r. ⌜ Strikes (problemIn (now (file .entry)) p) (stepAt (problemIn (now (file .entry)) p) j) (now (table .entry)) (now (table .exit)) (r .changed) ⌝ }
     ensures { λ r. ⌜ TrimmedIn (problemIn (now (file .entry)) p) (r .trimmed) (now (table .exit)) ⌝ }
@@ -156,5 +165,5 @@ pub fn step(file: &[u8], p: layout::Parts, j: usize, trimmed: u64, table: &mut [
             trimmed,
         };
     };
-    constraint(file, p, r, trimmed, table)
+    constraint(file, p, kinds, r, trimmed, table)
 }

@@ -1,6 +1,6 @@
 -- How a run starts: at a table of which nothing is known every string is trimmed and every constraint waits; at a child only the string of its word is trimmed,
 -- and the constraints that name the word's variable wait. Assumes nothing.
-use mathlib.Core.Path.{_≡_, sym, ap, subst, _∙_}
+use mathlib.Core.Path.{_≡_, sym, subst, _∙_}
 use mathlib.Core.Bool.{true, false}
 use mathlib.Core.List.{List}
 use Prim.Native.Nat.{ℕ, _+_, _/_, _^_, _<_}

@@ -7,13 +7,6 @@ use Rattle.automata.proofs.SetLaws.{Walked, Hit, walked-start, walked-n
 use borrow.Author.Needs.{needs}
 use Rattle.automata.proofs.enters.Statement.{statement}
 use Rattle.automata.proofs.enters.Tie as tie
-use Rattle.automata.proofs.enters.Reads as reads
-use Rattle.automata.proofs.enters.Lts as lts
-use Rattle.automata.proofs.below.Reads as below-reads
-use Rattle.automata.proofs.next.Reads as next-reads
-use Rattle.words.proofs.has.Reads as has-reads
-use Rattle.words.proofs.lowest.Reads as lowest-reads
-use Rattle.words.proofs.singleton.Reads as singleton-reads
 
 abbrev Inv-loop : tie.InvT-loop
 Inv-loop d k p set symbols rest₀ rest = Walked k symbols (λ i t. Hit symbols set (λ a. move (machine k d) p a) i) rest 0
@@ -21,29 +14,17 @@ Inv-loop d k p set symbols rest₀ rest = Walked k symbols (λ i t. Hit symbols 
 abbrev μ-loop : tie.MeasureT-loop
 μ-loop d k p set symbols rest₀ rest = rest
 
-below-requires : tie.Need-below-requires Inv-loop μ-loop
-below-requires c κs = search needs
-
 loop-holds : tie.Need-loop-holds Inv-loop μ-loop
 loop-holds c = walked-start _ _ _ _ (λ i t x. x .0) (c .below .ensures)
 
-lowest-requires : tie.Need-lowest-requires Inv-loop μ-loop
-lowest-requires c κs = search needs
-
 next-requires : tie.Need-next-requires Inv-loop μ-loop
 next-requires c κs = (search needs, search needs, search needs, walked-next _ _ _ _ _ _ (c .before .before .loop .inv) (c .lowest .ensures))
-
-has-requires : tie.Need-has-requires Inv-loop μ-loop
-has-requires c κs = search needs
 
 returns : tie.Need-returns Inv-loop μ-loop
 returns c =
     let l = c .before .before .before in
     let e = sym (c .before .has .ensures) ∙ c .if1 .taken in
     hit-one _ _ _ _ _ (l .before .before .loop .inv) _ _ (l .lowest .ensures) (c .before .before .next .ensures .0) e
-
-singleton-requires : tie.Need-singleton-requires Inv-loop μ-loop
-singleton-requires c κs = search needs
 
 sub-rest : tie.Need-sub-rest Inv-loop μ-loop
 sub-rest c = lowest-off _ _ _ (c .before .before .before .before .lowest .ensures) (c .singleton .ensures) .0
@@ -64,16 +45,5 @@ pub enters-spec : {M : Type 1} → statement M
 enters-spec =
     tie.close
     (tie.spec
-    Inv-loop
-    μ-loop
-    below-requires
-    loop-holds
-    lowest-requires
-    next-requires
-    has-requires
-    returns
-    singleton-requires
-    sub-rest
-    loop-less
-    loop-again
-    returns-2)
+    Inv-loop μ-loop (λ c κs. search needs) loop-holds (λ c κs. search needs) next-requires (λ c κs. search needs) returns (λ c κs. search needs) sub-rest
+    loop-less loop-again returns-2)

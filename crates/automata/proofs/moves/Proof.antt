@@ -6,13 +6,6 @@ use Rattle.automata.proofs.SetLaws.{Walked, BySymbol, walked-start, wal
 use borrow.Author.Needs.{needs}
 use Rattle.automata.proofs.moves.Statement.{statement}
 use Rattle.automata.proofs.moves.Tie as tie
-use Rattle.automata.proofs.moves.Reads as reads
-use Rattle.automata.proofs.moves.Lts as lts
-use Rattle.automata.proofs.below.Reads as below-reads
-use Rattle.automata.proofs.next.Reads as next-reads
-use Rattle.automata.proofs.only.Reads as only-reads
-use Rattle.words.proofs.lowest.Reads as lowest-reads
-use Rattle.words.proofs.singleton.Reads as singleton-reads
 
 abbrev Inv-loop : tie.InvT-loop
 Inv-loop d k p symbols rest₀ r₀ rest r = Walked k symbols (BySymbol (machine k d) p symbols) rest r
@@ -20,23 +13,11 @@ Inv-loop d k p symbols rest₀ r₀ rest r = Walked k symbols (BySymbol (machine
 abbrev μ-loop : tie.MeasureT-loop
 μ-loop d k p symbols rest₀ r₀ rest r = rest
 
-below-requires : tie.Need-below-requires Inv-loop μ-loop
-below-requires c κs = search needs
-
 loop-holds : tie.Need-loop-holds Inv-loop μ-loop
 loop-holds c = walked-start _ _ _ _ (λ i t x. x .0) (c .below .ensures)
 
-lowest-requires : tie.Need-lowest-requires Inv-loop μ-loop
-lowest-requires c κs = search needs
-
 next-requires : tie.Need-next-requires Inv-loop μ-loop
 next-requires c κs = (search needs, search needs, search needs, walked-next _ _ _ _ _ _ (c .before .before .loop .inv) (c .lowest .ensures))
-
-only-requires : tie.Need-only-requires Inv-loop μ-loop
-only-requires c κs = search needs
-
-singleton-requires : tie.Need-singleton-requires Inv-loop μ-loop
-singleton-requires c κs = search needs
 
 sub-rest : tie.Need-sub-rest Inv-loop μ-loop
 sub-rest c = lowest-off _ _ _ (c .before .before .before .lowest .ensures) (c .singleton .ensures) .0
@@ -56,15 +37,5 @@ pub moves-spec : {M : Type 1} → statement M
 moves-spec =
     tie.close
     (tie.spec
-    Inv-loop
-    μ-loop
-    below-requires
-    loop-holds
-    lowest-requires
-    next-requires
-    only-requires
-    singleton-requires
-    sub-rest
-    loop-less
-    loop-again
-    returns)
+    Inv-loop μ-loop (λ c κs. search needs) loop-holds (λ c κs. search needs) next-requires (λ c κs. search needs) (λ c κs. search needs) sub-rest loop-less
+    loop-again returns)

@@ -4,8 +4,6 @@ use Rattle.automata.specs.Machine.{stateCount}
 use Rattle.automata.proofs.MachineLaws.{cell-inside, cells-few, move-byte, move-known}
 use Rattle.automata.proofs.next.Statement.{statement}
 use Rattle.automata.proofs.next.Tie as tie
-use Rattle.automata.proofs.next.Reads as reads
-use Rattle.automata.proofs.next.Lts as lts
 
 mul-result : tie.Need-mul-result
 mul-result c =

@@ -6,13 +6,6 @@ use Rattle.automata.proofs.SetLaws.{Walked, ByState, walked-start, walk
 use borrow.Author.Needs.{needs}
 use Rattle.automata.proofs.successors.Statement.{statement}
 use Rattle.automata.proofs.successors.Tie as tie
-use Rattle.automata.proofs.successors.Reads as reads
-use Rattle.automata.proofs.successors.Lts as lts
-use Rattle.automata.proofs.below.Reads as below-reads
-use Rattle.automata.proofs.moves.Reads as moves-reads
-use Rattle.automata.proofs.states.Reads as states-reads
-use Rattle.words.proofs.lowest.Reads as lowest-reads
-use Rattle.words.proofs.singleton.Reads as singleton-reads
 
 abbrev Inv-loop : tie.InvT-loop
 Inv-loop d k set symbols rest₀ r₀ rest r = Walked (stateCount d) set (ByState (machine k d) k set symbols) rest r
@@ -20,23 +13,11 @@ Inv-loop d k set symbols rest₀ r₀ rest r = Walked (stateCount d) set (ByStat
 abbrev μ-loop : tie.MeasureT-loop
 μ-loop d k set symbols rest₀ r₀ rest r = rest
 
-states-requires : tie.Need-states-requires Inv-loop μ-loop
-states-requires c κs = search needs
-
-below-requires : tie.Need-below-requires Inv-loop μ-loop
-below-requires c κs = search needs
-
 loop-holds : tie.Need-loop-holds Inv-loop μ-loop
 loop-holds c = walked-start _ _ _ _ (λ i t x. x .0) (rw (c .before .states .ensures) at (c .below .ensures))
 
-lowest-requires : tie.Need-lowest-requires Inv-loop μ-loop
-lowest-requires c κs = search needs
-
 moves-requires : tie.Need-moves-requires Inv-loop μ-loop
 moves-requires c κs = (search needs, search needs, walked-next _ _ _ _ _ _ (c .before .before .loop .inv) (c .lowest .ensures))
-
-singleton-requires : tie.Need-singleton-requires Inv-loop μ-loop
-singleton-requires c κs = search needs
 
 sub-rest : tie.Need-sub-rest Inv-loop μ-loop
 sub-rest c = lowest-off _ _ _ (c .before .before .lowest .ensures) (c .singleton .ensures) .0
@@ -56,15 +37,5 @@ pub successors-spec : {M : Type 1} → statement M
 successors-spec =
     tie.close
     (tie.spec
-    Inv-loop
-    μ-loop
-    states-requires
-    below-requires
-    loop-holds
-    lowest-requires
-    moves-requires
-    singleton-requires
-    sub-rest
-    loop-less
-    loop-again
-    returns)
+    Inv-loop μ-loop (λ c κs. search needs) (λ c κs. search needs) loop-holds (λ c κs. search needs) moves-requires (λ c κs. search needs) sub-rest loop-less
+    loop-again returns)

@@ -6,11 +6,6 @@ use Rattle.cat.proofs.GatherLaws.{gather-turn}
 use borrow.Author.Needs.{needs}
 use Rattle.cat.proofs.gather.Statement.{statement}
 use Rattle.cat.proofs.gather.Tie as tie
-use Rattle.cat.proofs.gather.Reads as reads
-use Rattle.cat.proofs.gather.Lts as lts
-use Rattle.cat.proofs.split.Reads as split-reads
-use Rattle.words.proofs.lowest.Reads as lowest-reads
-use Rattle.words.proofs.singleton.Reads as singleton-reads
 
 abbrev Inv-loop : tie.InvT-loop
 Inv-loop t x y z lengths r₀ rest₀ last₀ r rest last = Gathered t x y z rest last r
@@ -21,18 +16,12 @@ abbrev μ-loop : tie.MeasureT-loop
 loop-holds : tie.Need-loop-holds Inv-loop μ-loop
 loop-holds c = c .before .before .pre .1
 
-lowest-requires : tie.Need-lowest-requires Inv-loop μ-loop
-lowest-requires c κs = search needs
-
 split-requires : tie.Need-split-requires Inv-loop μ-loop
 split-requires c κs =
     let l = c .before .before .before in
     let a = l .before .before .before in
     let w = c .before .lowest .ensures in
     (a .pre .0, l .loop .inv .ahead _ (w .here), w .small, l .loop .inv .size)
-
-singleton-requires : tie.Need-singleton-requires Inv-loop μ-loop
-singleton-requires c κs = search needs
 
 sub-rest : tie.Need-sub-rest Inv-loop μ-loop
 sub-rest c = lowest-off _ _ _ (c .before .before .before .before .before .lowest .ensures) (c .singleton .ensures) .0
@@ -59,14 +48,4 @@ pub gather-spec : {M : Type 1} → statement M
 gather-spec =
     tie.close
     (tie.spec
-    Inv-loop
-    μ-loop
-    loop-holds
-    lowest-requires
-    split-requires
-    singleton-requires
-    sub-rest
-    loop-less
-    loop-again
-    same-length
-    returns)
+    Inv-loop μ-loop loop-holds (λ c κs. search needs) split-requires (λ c κs. search needs) sub-rest loop-less loop-again same-length returns)

@@ -4,19 +4,6 @@ use Rattle.cobleskeg.proofs.ByIndexLaws.{index-early, index-eighteen, i
 use borrow.Author.Needs.{needs}
 use Rattle.cobleskeg.proofs.index.Statement.{statement}
 use Rattle.cobleskeg.proofs.index.Tie as tie
-use Rattle.cobleskeg.proofs.index.Reads as reads
-use Rattle.cobleskeg.proofs.index.Lts as lts
-use Rattle.format.proofs.accept.Reads as accept-reads
-use Rattle.index.proofs.write.Reads as write-reads
-
-accept-requires : tie.Need-accept-requires
-accept-requires c κs = search needs
-
-enum-known-n : tie.Need-enum-known-n
-enum-known-n c = search needs
-
-enum-known-p : tie.Need-enum-known-p
-enum-known-p c = search needs
 
 add-if1 : tie.Need-add-if1
 add-if1 c = let f = fit _ _ (c .before .before .before .before .accept .ensures) _ (c .before .before .p .given .1) in omega (arith, f .strings-most, f .numbers-most)
@@ -33,9 +20,6 @@ write-requires c κs = index-asks _ _ (c .before .before .before .before .before
 returns-2 : tie.Need-returns-2
 returns-2 c = index-early _ _ (c .before .before .before .accept .ensures) _ _ (c .before .n .given .1)
 
-same-length : tie.Need-same-length
-same-length c = search needs
-
 returns-3 : tie.Need-returns-3
 returns-3 c = index-whole _ _ (c .before .before .before .before .before .before .before .before .before .accept .ensures) (c .before .before .before .before .before .before .before .before .before .before .before .before .args .index .now) _ (c .before .before .before .before .before .before .before .p .given .1) (c .before .before .before .before .if1 .left) _ (c .before .before .write .ensures)
 
@@ -43,13 +27,4 @@ pub index-spec : {M : Type 1} → statement M
 index-spec =
     tie.close
     (tie.spec
-    accept-requires
-    enum-known-n
-    enum-known-p
-    add-if1
-    mul-if1
-    returns
-    write-requires
-    returns-2
-    same-length
-    returns-3)
+    (λ c κs. search needs) (λ c. search needs) (λ c. search needs) add-if1 mul-if1 returns write-requires returns-2 (λ c. search needs) returns-3)

@@ -8,9 +8,6 @@ use Rattle.cobleskeg.proofs.PerformLaws.{Called, called-none, called-ne
 use borrow.Author.Needs.{needs}
 use Rattle.cobleskeg.proofs.perform_by_index.Statement.{statement}
 use Rattle.cobleskeg.proofs.perform_by_index.Tie as tie
-use Rattle.cobleskeg.proofs.perform_by_index.Reads as reads
-use Rattle.cobleskeg.proofs.perform_by_index.Lts as lts
-use Rattle.cobleskeg.proofs.call_by_index.Reads as call-by-index-reads
 
 abbrev Inv-loop : tie.InvT-loop
 Inv-loop file list index table₀ calls i₀ table i = (i ≤ calls) × (length table ≡ length table₀) × Called (reading file) (callByIndex index) list table₀ i table
@@ -21,26 +18,8 @@ abbrev μ-loop : tie.MeasureT-loop
 loop-holds : tie.Need-loop-holds Inv-loop μ-loop
 loop-holds c = (search needs, refl, called-none _ _ _ _)
 
-mul-call-by-index : tie.Need-mul-call-by-index Inv-loop μ-loop
-mul-call-by-index c = search needs
-
-shared-slice-read-call-by-index : tie.Need-shared-slice-read-call-by-index Inv-loop μ-loop
-shared-slice-read-call-by-index c = search needs
-
-call-by-index-requires : tie.Need-call-by-index-requires Inv-loop μ-loop
-call-by-index-requires c κs = search needs
-
-add-i : tie.Need-add-i Inv-loop μ-loop
-add-i c = search needs
-
-loop-less : tie.Need-loop-less Inv-loop μ-loop
-loop-less c = search needs
-
 loop-again : tie.Need-loop-again Inv-loop μ-loop
 loop-again c = (search needs, search needs, called-next _ _ _ _ _ _ _ (search needs) (c .before .before .call-by-index .ensures) (c .before .before .before .before .before .before .loop .inv .2))
-
-same-length : tie.Need-same-length Inv-loop μ-loop
-same-length c = search needs
 
 returns : tie.Need-returns Inv-loop μ-loop
 returns c =
@@ -54,14 +33,5 @@ pub perform-by-index-spec : {M : Type 1} → statement M
 perform-by-index-spec =
     tie.close
     (tie.spec
-    Inv-loop
-    μ-loop
-    loop-holds
-    mul-call-by-index
-    shared-slice-read-call-by-index
-    call-by-index-requires
-    add-i
-    loop-less
-    loop-again
-    same-length
-    returns)
+    Inv-loop μ-loop loop-holds (λ c. search needs) (λ c. search needs) (λ c κs. search needs) (λ c. search needs) (λ c. search needs) loop-again
+    (λ c. search needs) returns)

@@ -4,19 +4,6 @@ use Rattle.cobleskeg.proofs.SearchEntryLaws.{search-early, search-twelv
 use borrow.Author.Needs.{needs}
 use Rattle.cobleskeg.proofs.search.Statement.{statement}
 use Rattle.cobleskeg.proofs.search.Tie as tie
-use Rattle.cobleskeg.proofs.search.Reads as reads
-use Rattle.cobleskeg.proofs.search.Lts as lts
-use Rattle.format.proofs.accept.Reads as accept-reads
-use Rattle.search.proofs.search.Reads as search-reads
-
-accept-requires : tie.Need-accept-requires
-accept-requires c κs = search needs
-
-enum-known-n : tie.Need-enum-known-n
-enum-known-n c = search needs
-
-enum-known-p : tie.Need-enum-known-p
-enum-known-p c = search needs
 
 mul-words : tie.Need-mul-words
 mul-words c = let f = fit _ _ (c .before .before .before .before .accept .ensures) _ (c .before .before .p .given .1) in omega (arith, f .strings-most)
@@ -45,25 +32,10 @@ search-requires c κs =
     search-there _ (λ i. looked .before .before .before .shared-slice-known .given i .fits) (start .args .budget) (start .args .room .now) (start .args .table .now) _
     (looked .accept .ensures) _ (fitting .before .before .before .before .before .p .given .1) (fitting .before .if1 .left) (fitting .if2 .left)
 
-enum-known-n-2 : tie.Need-enum-known-n-2
-enum-known-n-2 c = search needs
-
-enum-known-n-3 : tie.Need-enum-known-n-3
-enum-known-n-3 c = search needs
-
-enum-known-n-4 : tie.Need-enum-known-n-4
-enum-known-n-4 c = search needs
-
 returns-3 : tie.Need-returns-3
 returns-3 c =
     let looked = c .before .before .before in
     search-early _ (λ i. looked .before .before .before .shared-slice-known .given i .fits) _ _ _ _ (looked .accept .ensures) _ (c .before .n .given .1)
-
-same-length : tie.Need-same-length
-same-length c = search needs
-
-same-length-2 : tie.Need-same-length-2
-same-length-2 c = search needs
 
 returns-4 : tie.Need-returns-4
 returns-4 c =
@@ -73,12 +45,6 @@ returns-4 c =
     found-done _ (λ i. looked .before .before .before .shared-slice-known .given i .fits) _ _ _ _ (looked .accept .ensures) _ (fitting .before .before .before .before .before .p .given .1)
     (fitting .before .if1 .left) (fitting .if2 .left) _ _ _ (ended .search .ensures) _ (c .before .n2 .given .1)
 
-same-length-3 : tie.Need-same-length-3
-same-length-3 c = search needs
-
-same-length-4 : tie.Need-same-length-4
-same-length-4 c = search needs
-
 returns-5 : tie.Need-returns-5
 returns-5 c =
     let ended = c .before .before .before .before .before .before .before in
@@ -86,12 +52,6 @@ returns-5 c =
     let looked = fitting .before .before .before .before .before .before .before in
     none-done _ (λ i. looked .before .before .before .shared-slice-known .given i .fits) _ _ _ _ (looked .accept .ensures) _ (fitting .before .before .before .before .before .p .given .1)
     (fitting .before .if1 .left) (fitting .if2 .left) _ _ _ (ended .search .ensures) _ (c .before .n3 .given .1)
-
-same-length-5 : tie.Need-same-length-5
-same-length-5 c = search needs
-
-same-length-6 : tie.Need-same-length-6
-same-length-6 c = search needs
 
 returns-6 : tie.Need-returns-6
 returns-6 c =
@@ -105,25 +65,6 @@ pub search-spec : {M : Type 1} → statement M
 search-spec =
     tie.close
     (tie.spec
-    accept-requires
-    enum-known-n
-    enum-known-p
-    mul-words
-    add-words
-    mul-if1
-    returns
-    returns-2
-    search-requires
-    enum-known-n-2
-    enum-known-n-3
-    enum-known-n-4
-    returns-3
-    same-length
-    same-length-2
-    returns-4
-    same-length-3
-    same-length-4
-    returns-5
-    same-length-5
-    same-length-6
-    returns-6)
+    (λ c κs. search needs) (λ c. search needs) (λ c. search needs) mul-words add-words mul-if1 returns returns-2 search-requires (λ c. search needs)
+    (λ c. search needs) (λ c. search needs) returns-3 (λ c. search needs) (λ c. search needs) returns-4 (λ c. search needs) (λ c. search needs) returns-5
+    (λ c. search needs) (λ c. search needs) returns-6)

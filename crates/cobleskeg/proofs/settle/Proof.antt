@@ -3,27 +3,9 @@ use Rattle.cobleskeg.proofs.LentLaws.{looked-over, table-lent, settle-e
 use borrow.Author.Needs.{needs}
 use Rattle.cobleskeg.proofs.settle.Statement.{statement}
 use Rattle.cobleskeg.proofs.settle.Tie as tie
-use Rattle.cobleskeg.proofs.settle.Reads as reads
-use Rattle.cobleskeg.proofs.settle.Lts as lts
-use Rattle.cobleskeg.proofs.unlendable.Reads as unlendable-reads
-use Rattle.format.proofs.accept.Reads as accept-reads
-use Rattle.rounds.proofs.every_value.Reads as every-value-reads
-use Rattle.rounds.proofs.settle.Reads as settle-reads
-
-accept-requires : tie.Need-accept-requires
-accept-requires c κs = search needs
-
-enum-known-n : tie.Need-enum-known-n
-enum-known-n c = search needs
-
-enum-known-p : tie.Need-enum-known-p
-enum-known-p c = search needs
 
 unlendable-requires : tie.Need-unlendable-requires
 unlendable-requires c κs = looked-over _ _ (c .before .before .before .before .accept .ensures) (c .before .before .before .before .before .before .before .args .table .now) _ (c .before .before .p .given .1)
-
-same-length : tie.Need-same-length
-same-length c = search needs
 
 returns : tie.Need-returns
 returns c = settle-unlent _ _ (c .before .before .before .before .before .before .accept .ensures) _ _ (c .before .before .before .before .p .given .1) _ (c .before .unlendable .ensures) (c .if1 .taken)
@@ -41,9 +23,6 @@ every-value-requires c κs =
 returns-2 : tie.Need-returns-2
 returns-2 c = settle-early _ _ (c .before .before .before .accept .ensures) _ _ (c .before .n .given .1)
 
-same-length-2 : tie.Need-same-length-2
-same-length-2 c = search needs
-
 returns-3 : tie.Need-returns-3
 returns-3 c =
     let settled = c .before .before .before .before in
@@ -57,14 +36,5 @@ pub settle-spec : {M : Type 1} → statement M
 settle-spec =
     tie.close
     (tie.spec
-    accept-requires
-    enum-known-n
-    enum-known-p
-    unlendable-requires
-    same-length
-    returns
-    settle-requires
-    every-value-requires
-    returns-2
-    same-length-2
-    returns-3)
+    (λ c κs. search needs) (λ c. search needs) (λ c. search needs) unlendable-requires (λ c. search needs) returns settle-requires every-value-requires
+    returns-2 (λ c. search needs) returns-3)

@@ -8,28 +8,9 @@ use Rattle.cobleskeg.proofs.ByIndexLaws.{by-index-rows, by-index-done}
 use borrow.Author.Needs.{needs}
 use Rattle.cobleskeg.proofs.settle_by_index.Statement.{statement}
 use Rattle.cobleskeg.proofs.settle_by_index.Tie as tie
-use Rattle.cobleskeg.proofs.settle_by_index.Reads as reads
-use Rattle.cobleskeg.proofs.settle_by_index.Lts as lts
-use Rattle.cobleskeg.proofs.unlendable.Reads as unlendable-reads
-use Rattle.format.proofs.accept.Reads as accept-reads
-use Rattle.index.proofs.is_of_file.Reads as is-of-file-reads
-use Rattle.queue.proofs.settle.Reads as settle-reads
-use Rattle.rounds.proofs.every_value.Reads as every-value-reads
-
-accept-requires : tie.Need-accept-requires
-accept-requires c κs = search needs
-
-enum-known-n : tie.Need-enum-known-n
-enum-known-n c = search needs
-
-enum-known-p : tie.Need-enum-known-p
-enum-known-p c = search needs
 
 unlendable-requires : tie.Need-unlendable-requires
 unlendable-requires c κs = looked-over _ _ (c .before .before .before .before .accept .ensures) (c .before .before .before .before .before .before .before .before .args .table .now) _ (c .before .before .p .given .1)
-
-same-length : tie.Need-same-length
-same-length c = search needs
 
 returns : tie.Need-returns
 returns c = by-index-unlent _ _ (c .before .before .before .before .before .before .accept .ensures) (c .before .before .before .before .before .before .before .before .before .before .args .index .now) (c .before .before .before .before .before .before .before .before .before .before .args .table .now) _ (c .before .before .before .before .p .given .1) _ (c .before .unlendable .ensures) (c .if1 .taken)
@@ -40,17 +21,11 @@ add-if2 c = let f = fit _ _ (c .before .before .before .before .before .before .
 mul-if2 : tie.Need-mul-if2
 mul-if2 c = let f = fit _ _ (c .before .before .before .before .before .before .before .accept .ensures) _ (c .before .before .before .before .before .p .given .1) in omega (arith, f .strings-most, f .numbers-most)
 
-same-length-2 : tie.Need-same-length-2
-same-length-2 c = search needs
-
 returns-2 : tie.Need-returns-2
 returns-2 c = by-index-eighteen _ _ (c .before .before .before .before .before .before .before .before .accept .ensures) (c .before .before .before .before .before .before .before .before .before .before .before .before .args .index .now) (c .before .before .before .before .before .before .before .before .before .before .before .before .args .table .now) _ (c .before .before .before .before .before .before .p .given .1) _ (c .before .before .before .unlendable .ensures) (c .before .before .if1 .left) (c .if2 .taken)
 
 is-of-file-requires : tie.Need-is-of-file-requires
 is-of-file-requires c κs = by-index-asks _ _ (c .before .before .before .before .before .before .before .before .accept .ensures) (c .before .before .before .before .before .before .before .before .before .before .before .before .args .index .now) (c .before .before .before .before .before .before .before .before .before .before .before .before .args .table .now) _ (c .before .before .before .before .before .before .p .given .1) _ (c .before .before .before .unlendable .ensures) (c .before .before .if1 .left) (c .if2 .left)
-
-same-length-3 : tie.Need-same-length-3
-same-length-3 c = search needs
 
 returns-3 : tie.Need-returns-3
 returns-3 c = by-index-nineteen _ _ (c .before .before .before .before .before .before .before .before .before .before .accept .ensures) (c .before .before .before .before .before .before .before .before .before .before .before .before .before .before .args .index .now) (c .before .before .before .before .before .before .before .before .before .before .before .before .before .before .args .table .now) _ (c .before .before .before .before .before .before .before .before .p .given .1) _ (c .before .before .before .before .before .unlendable .ensures) (c .before .before .before .before .if1 .left) (c .before .before .if2 .left) _ (c .before .is-of-file .ensures) (not-true _ (c .if3 .taken))
@@ -64,9 +39,6 @@ every-value-requires c κs = by-index-rows _ _ (c .before .before .before .befor
 returns-4 : tie.Need-returns-4
 returns-4 c = by-index-early _ _ (c .before .before .before .accept .ensures) _ _ _ (c .before .n .given .1)
 
-same-length-4 : tie.Need-same-length-4
-same-length-4 c = search needs
-
 returns-5 : tie.Need-returns-5
 returns-5 c = by-index-done _ _ (c .before .before .before .before .before .before .before .before .before .before .before .before .before .before .before .before .accept .ensures) (c .before .before .before .before .before .before .before .before .before .before .before .before .before .before .before .before .before .before .before .before .args .index .now) (c .before .before .before .before .before .before .before .before .before .before .before .before .before .before .before .before .before .before .before .before .args .table .now) _ (c .before .before .before .before .before .before .before .before .before .before .before .before .before .before .p .given .1) _ (c .before .before .before .before .before .before .before .before .before .before .before .unlendable .ensures) (c .before .before .before .before .before .before .before .before .before .before .if1 .left) (c .before .before .before .before .before .before .before .before .if2 .left) _ (c .before .before .before .before .before .before .before .is-of-file .ensures) (not-false _ (c .before .before .before .before .before .before .if3 .left)) _ _ (c .before .before .before .before .settle .ensures) (λ i. c .before .before .before .before .before .before .before .before .before .before .before .before .before .before .before .before .before .before .before .shared-slice-known .given i .fits) (words-of (c .before .before .before .before .before .before .before .before .before .before .before .before .before .before .before .before .before .before .before .before .args .table .now) (λ i. c .before .before .before .before .before .before .before .before .before .before .before .before .before .before .before .before .before .slice-known .given i .fits)) _ (c .every-value .ensures)
 
@@ -74,21 +46,5 @@ pub settle-by-index-spec : {M : Type 1} → statement M
 settle-by-index-spec =
     tie.close
     (tie.spec
-    accept-requires
-    enum-known-n
-    enum-known-p
-    unlendable-requires
-    same-length
-    returns
-    add-if2
-    mul-if2
-    same-length-2
-    returns-2
-    is-of-file-requires
-    same-length-3
-    returns-3
-    settle-requires
-    every-value-requires
-    returns-4
-    same-length-4
-    returns-5)
+    (λ c κs. search needs) (λ c. search needs) (λ c. search needs) unlendable-requires (λ c. search needs) returns add-if2 mul-if2 (λ c. search needs)
+    returns-2 is-of-file-requires (λ c. search needs) returns-3 settle-requires every-value-requires returns-4 (λ c. search needs) returns-5)

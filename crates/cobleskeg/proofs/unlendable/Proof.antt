@@ -3,21 +3,9 @@ use Rattle.cobleskeg.proofs.LentLaws.{nine, ten, no-number}
 use borrow.Author.Needs.{needs}
 use Rattle.cobleskeg.proofs.unlendable.Statement.{statement}
 use Rattle.cobleskeg.proofs.unlendable.Tie as tie
-use Rattle.cobleskeg.proofs.unlendable.Reads as reads
-use Rattle.cobleskeg.proofs.unlendable.Lts as lts
-use Rattle.tables.proofs.table_low.Reads as table-low-reads
-
-mul-words : tie.Need-mul-words
-mul-words c = search needs
-
-add-words : tie.Need-add-words
-add-words c = search needs
 
 returns : tie.Need-returns
 returns c P ek es et = nine _ _ _ _ P ek es et (c .if1 .taken)
-
-table-low-requires : tie.Need-table-low-requires
-table-low-requires c κs = search needs
 
 returns-2 : tie.Need-returns-2
 returns-2 c P ek es et = ten _ _ _ _ P ek es et (c .before .before .if1 .left) _ (c .before .table-low .ensures) (not-true _ (c .if2 .taken))
@@ -27,4 +15,4 @@ returns-3 c P ek es et = no-number _ _ _ _ P ek es et (c .before .before .if1 .l
 
 pub unlendable-spec : {M : Type 1} → statement M
 unlendable-spec =
-    tie.close (tie.spec mul-words add-words returns table-low-requires returns-2 returns-3)
+    tie.close (tie.spec (λ c. search needs) (λ c. search needs) returns (λ c κs. search needs) returns-2 returns-3)

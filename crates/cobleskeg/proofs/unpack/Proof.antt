@@ -5,19 +5,6 @@ use Rattle.cobleskeg.proofs.AnswerLaws.{fit, unpack-early, unpack-nine,
 use borrow.Author.Needs.{needs}
 use Rattle.cobleskeg.proofs.unpack.Statement.{statement}
 use Rattle.cobleskeg.proofs.unpack.Tie as tie
-use Rattle.cobleskeg.proofs.unpack.Reads as reads
-use Rattle.cobleskeg.proofs.unpack.Lts as lts
-use Rattle.format.proofs.accept.Reads as accept-reads
-use Rattle.tables.proofs.unpack.Reads as unpack-reads
-
-accept-requires : tie.Need-accept-requires
-accept-requires c κs = search needs
-
-enum-known-n : tie.Need-enum-known-n
-enum-known-n c = search needs
-
-enum-known-p : tie.Need-enum-known-p
-enum-known-p c = search needs
 
 mul-if1 : tie.Need-mul-if1
 mul-if1 c = let f = fit _ _ (c .before .before .before .before .accept .ensures) _ (c .before .before .p .given .1) in omega (arith, f .strings-most)
@@ -39,9 +26,6 @@ unpack-requires c κs =
 returns-2 : tie.Need-returns-2
 returns-2 c = unpack-early _ _ (c .before .before .before .accept .ensures) _ _ (c .before .n .given .1)
 
-same-length : tie.Need-same-length
-same-length c = search needs
-
 returns-3 : tie.Need-returns-3
 returns-3 c =
     let looked = c .before .before .before .before .before .before .before .before .before .before .before in
@@ -51,14 +35,5 @@ pub unpack-spec : {M : Type 1} → statement M
 unpack-spec =
     tie.close
     (tie.spec
-    accept-requires
-    enum-known-n
-    enum-known-p
-    mul-if1
-    add-if1
-    returns
-    slice-aggregate-unpack
-    unpack-requires
-    returns-2
-    same-length
-    returns-3)
+    (λ c κs. search needs) (λ c. search needs) (λ c. search needs) mul-if1 add-if1 returns slice-aggregate-unpack unpack-requires returns-2
+    (λ c. search needs) returns-3)

@@ -8,9 +8,6 @@ use Rattle.numbering.proofs.JoinLaws.{joined-step}
 use Rattle.compiler.specs.Answers.{finalIn}
 use Rattle.compiler.proofs.accepting.Statement.{statement}
 use Rattle.compiler.proofs.accepting.Tie as tie
-use Rattle.compiler.proofs.accepting.Reads as reads
-use Rattle.compiler.proofs.accepting.Lts as lts
-use Rattle.compiler.proofs.final_bit.Reads as final-bit-reads
 
 abbrev Inv-loop : tie.InvT-loop
 Inv-loop sets n nullable last r₀ i₀ r i = (i ≤ n) × (r ≡ joined (λ (j : ℕ). when (finalIn nullable last (stateAt sets j)) (2 ^ j)) i)
@@ -22,15 +19,6 @@ loop-holds : tie.Need-loop-holds Inv-loop μ-loop
 unfolding joined
 loop-holds c = (search needs, refl)
 
-final-bit-requires : tie.Need-final-bit-requires Inv-loop μ-loop
-final-bit-requires c κs = search needs
-
-add-i : tie.Need-add-i Inv-loop μ-loop
-add-i c = search needs
-
-loop-less : tie.Need-loop-less Inv-loop μ-loop
-loop-less c = search needs
-
 loop-again : tie.Need-loop-again Inv-loop μ-loop
 loop-again c = (search needs, joined-step _ _ _ _ (c .before .before .loop .inv .1) (c .final-bit .ensures))
 
@@ -40,4 +28,4 @@ returns c = let e : c .before .loop .i ≡ c .before .before .before .args .n = 
 pub accepting-spec : {M : Type 1} → statement M
 accepting-spec =
     tie.close
-    (tie.spec Inv-loop μ-loop loop-holds final-bit-requires add-i loop-less loop-again returns)
+    (tie.spec Inv-loop μ-loop loop-holds (λ c κs. search needs) (λ c. search needs) (λ c. search needs) loop-again returns)

@@ -6,30 +6,9 @@ use Rattle.laws.proofs.ListLaws.{not-true, not-false}
 use borrow.Author.Needs.{needs}
 use Rattle.compiler.proofs.compile.Statement.{statement}
 use Rattle.compiler.proofs.compile.Tie as tie
-use Rattle.compiler.proofs.compile.Reads as reads
-use Rattle.compiler.proofs.compile.Lts as lts
-use Rattle.compiler.proofs.accepting.Reads as accepting-reads
-use Rattle.compiler.proofs.letters_below.Reads as letters-below-reads
-use Rattle.compiler.proofs.sort_places.Reads as sort-places-reads
-use Rattle.compiler.proofs.write_head.Reads as write-head-reads
-use Rattle.compiler.proofs.write_rows.Reads as write-rows-reads
-use Rattle.numbering.proofs.number_states.Reads as number-states-reads
-use Rattle.parser.proofs.read_text.Reads as read-text-reads
 
 returns : tie.Need-returns
 returns c = told-long _ _ (c .before .before .before .args .buffer .now) (c .if1 .taken)
-
-slice-aggregate-read-text : tie.Need-slice-aggregate-read-text
-slice-aggregate-read-text c = search needs
-
-read-text-requires : tie.Need-read-text-requires
-read-text-requires c κs = search needs
-
-enum-known-part : tie.Need-enum-known-part
-enum-known-part c = search needs
-
-enum-told : tie.Need-enum-told
-enum-told c = search needs
 
 returns-2 : tie.Need-returns-2
 returns-2 c =
@@ -48,9 +27,6 @@ returns-4 c =
     let read = found .before .before .before in
     told-many _ (read .before .before .if1 .left) _ (read .before .before .before .before .before .args .buffer .now) _ _ (read .read-text .ensures) _ (found .part .given .1) (c .if3 .taken)
 
-letters-below-requires : tie.Need-letters-below-requires
-letters-below-requires c κs = search needs
-
 returns-5 : tie.Need-returns-5
 returns-5 c =
     let letters = c .before in
@@ -60,24 +36,6 @@ returns-5 c =
     let read = found .before .before .before in
     told-letters _ (read .before .before .if1 .left) _ (read .before .before .before .before .before .args .buffer .now) _ _ (read .read-text .ensures) _ (found .part .given .1) (low .if2 .left) (high .if3 .left)
     (sym (letters .letters-below .ensures) ∙ not-true (letters .letters-below .result) (c .if4 .taken))
-
-slice-aggregate-sort-places : tie.Need-slice-aggregate-sort-places
-slice-aggregate-sort-places c = search needs
-
-sort-places-requires : tie.Need-sort-places-requires
-sort-places-requires c κs = search needs
-
-slice-aggregate-number-states : tie.Need-slice-aggregate-number-states
-slice-aggregate-number-states c = search needs
-
-slice-aggregate-number-states-2 : tie.Need-slice-aggregate-number-states-2
-slice-aggregate-number-states-2 c = search needs
-
-slice-aggregate-number-states-3 : tie.Need-slice-aggregate-number-states-3
-slice-aggregate-number-states-3 c = search needs
-
-number-states-requires : tie.Need-number-states-requires
-number-states-requires c κs = search needs
 
 returns-6 : tie.Need-returns-6
 returns-6 c =
@@ -134,30 +92,6 @@ returns-7 c =
     (sym (letters .letters-below .ensures) ∙ not-false (letters .letters-below .result) (below .if4 .left)) _ (placed .sort-places .ensures) _ _
     (numbered .number-states .ensures) (few .if5 .left) (c .if6 .taken)
 
-slice-aggregate-accepting : tie.Need-slice-aggregate-accepting
-slice-aggregate-accepting c = search needs
-
-accepting-requires : tie.Need-accepting-requires
-accepting-requires c κs = search needs
-
-write-head-requires : tie.Need-write-head-requires
-write-head-requires c κs = search needs
-
-slice-aggregate-write-rows : tie.Need-slice-aggregate-write-rows
-slice-aggregate-write-rows c = search needs
-
-slice-aggregate-write-rows-2 : tie.Need-slice-aggregate-write-rows-2
-slice-aggregate-write-rows-2 c = search needs
-
-slice-aggregate-write-rows-3 : tie.Need-slice-aggregate-write-rows-3
-slice-aggregate-write-rows-3 c = search needs
-
-write-rows-requires : tie.Need-write-rows-requires
-write-rows-requires c κs = search needs
-
-same-length : tie.Need-same-length
-same-length c = search needs
-
 returns-8 : tie.Need-returns-8
 returns-8 c =
     let wrote = c .before .before in
@@ -182,32 +116,7 @@ pub compile-spec : {M : Type 1} → statement M
 compile-spec =
     tie.close
     (tie.spec
-    returns
-    slice-aggregate-read-text
-    read-text-requires
-    enum-known-part
-    enum-told
-    returns-2
-    returns-3
-    returns-4
-    letters-below-requires
-    returns-5
-    slice-aggregate-sort-places
-    sort-places-requires
-    slice-aggregate-number-states
-    slice-aggregate-number-states-2
-    slice-aggregate-number-states-3
-    number-states-requires
-    returns-6
-    mul-size
-    add-size
-    returns-7
-    slice-aggregate-accepting
-    accepting-requires
-    write-head-requires
-    slice-aggregate-write-rows
-    slice-aggregate-write-rows-2
-    slice-aggregate-write-rows-3
-    write-rows-requires
-    same-length
-    returns-8)
+    returns (λ c. search needs) (λ c κs. search needs) (λ c. search needs) (λ c. search needs) returns-2 returns-3 returns-4 (λ c κs. search needs)
+    returns-5 (λ c. search needs) (λ c κs. search needs) (λ c. search needs) (λ c. search needs) (λ c. search needs) (λ c κs. search needs) returns-6
+    mul-size add-size returns-7 (λ c. search needs) (λ c κs. search needs) (λ c κs. search needs) (λ c. search needs) (λ c. search needs)
+    (λ c. search needs) (λ c κs. search needs) (λ c. search needs) returns-8)

@@ -7,9 +7,6 @@ use Rattle.compiler.proofs.TestLaws.{Below, below-start, below-step, be
 use Rattle.laws.proofs.ListLaws.{not-true, not-false}
 use Rattle.compiler.proofs.letters_below.Statement.{statement}
 use Rattle.compiler.proofs.letters_below.Tie as tie
-use Rattle.compiler.proofs.letters_below.Reads as reads
-use Rattle.compiler.proofs.letters_below.Lts as lts
-use Rattle.compiler.proofs.letter_below.Reads as letter-below-reads
 
 abbrev Inv-loop : tie.InvT-loop
 Inv-loop s k p₀ p-end p = (p-end ≡ length s) × (p ≤ length s) × Below k s p
@@ -20,20 +17,8 @@ abbrev μ-loop : tie.MeasureT-loop
 loop-holds : tie.Need-loop-holds Inv-loop μ-loop
 loop-holds c = (search needs, search needs, below-start _ _)
 
-shared-slice-read-letter-below : tie.Need-shared-slice-read-letter-below Inv-loop μ-loop
-shared-slice-read-letter-below c = search needs
-
-letter-below-requires : tie.Need-letter-below-requires Inv-loop μ-loop
-letter-below-requires c κs = search needs
-
 returns : tie.Need-returns Inv-loop μ-loop
 returns c = below-not _ _ _ (omega arith) (sym (c .before .letter-below .ensures) ∙ not-true (c .before .letter-below .result) (c .if1 .taken))
-
-add-p : tie.Need-add-p Inv-loop μ-loop
-add-p c = search needs
-
-loop-less : tie.Need-loop-less Inv-loop μ-loop
-loop-less c = search needs
 
 loop-again : tie.Need-loop-again Inv-loop μ-loop
 loop-again c = (search needs, search needs, below-step _ _ _ (c .before .before .before .before .loop .inv .2) (sym (c .before .letter-below .ensures) ∙ not-false (c .before .letter-below .result) (c .if1 .left)))
@@ -45,13 +30,4 @@ pub letters-below-spec : {M : Type 1} → statement M
 letters-below-spec =
     tie.close
     (tie.spec
-    Inv-loop
-    μ-loop
-    loop-holds
-    shared-slice-read-letter-below
-    letter-below-requires
-    returns
-    add-p
-    loop-less
-    loop-again
-    returns-2)
+    Inv-loop μ-loop loop-holds (λ c. search needs) (λ c κs. search needs) returns (λ c. search needs) (λ c. search needs) loop-again returns-2)

@@ -7,10 +7,6 @@ use Rattle.compiler.proofs.SortLaws.{symbol-below, sorted-start, sorted
 use borrow.Author.Needs.{needs}
 use Rattle.compiler.proofs.sort_places.Statement.{statement}
 use Rattle.compiler.proofs.sort_places.Tie as tie
-use Rattle.compiler.proofs.sort_places.Reads as reads
-use Rattle.compiler.proofs.sort_places.Lts as lts
-use Rattle.compiler.proofs.symbol_at.Reads as symbol-at-reads
-use Rattle.words.proofs.singleton.Reads as singleton-reads
 
 abbrev Inv-loop : tie.InvT-loop
 Inv-loop s places₀ p₀ places p = (p ≤ 64) × Sorted s p places
@@ -21,29 +17,17 @@ abbrev μ-loop : tie.MeasureT-loop
 loop-holds : tie.Need-loop-holds Inv-loop μ-loop
 loop-holds c = (search needs, sorted-start _ _ (c .before .before .pre))
 
-symbol-at-requires : tie.Need-symbol-at-requires Inv-loop μ-loop
-symbol-at-requires c κs = search needs
-
 mul-places : tie.Need-mul-places Inv-loop μ-loop
 mul-places c = let l = symbol-below _ _ _ (c .symbol-at .ensures) in omega arith
 
 slice-read-places : tie.Need-slice-read-places Inv-loop μ-loop
 slice-read-places c = let z = c .before .before .before .loop .inv .1 .size in let l = symbol-below _ _ _ (c .before .symbol-at .ensures) in omega arith
 
-singleton-requires : tie.Need-singleton-requires Inv-loop μ-loop
-singleton-requires c κs = search needs
-
 mul-places-2 : tie.Need-mul-places-2 Inv-loop μ-loop
 mul-places-2 c = let l = symbol-below _ _ _ (c .before .before .symbol-at .ensures) in omega arith
 
 slice-write-places : tie.Need-slice-write-places Inv-loop μ-loop
 slice-write-places c = let z = c .before .before .before .before .loop .inv .1 .size in let l = symbol-below _ _ _ (c .before .before .symbol-at .ensures) in omega arith
-
-add-p : tie.Need-add-p Inv-loop μ-loop
-add-p c = search needs
-
-loop-less : tie.Need-loop-less Inv-loop μ-loop
-loop-less c = search needs
 
 loop-again : tie.Need-loop-again Inv-loop μ-loop
 loop-again c = (search needs, sorted-step _ _ _ _ _ (c .before .before .before .before .loop .inv .1) (c .before .before .symbol-at .ensures) (c .singleton .ensures))
@@ -58,17 +42,5 @@ pub sort-places-spec : {M : Type 1} → statement M
 sort-places-spec =
     tie.close
     (tie.spec
-    Inv-loop
-    μ-loop
-    loop-holds
-    symbol-at-requires
-    mul-places
-    slice-read-places
-    singleton-requires
-    mul-places-2
-    slice-write-places
-    add-p
-    loop-less
-    loop-again
-    same-length
-    returns)
+    Inv-loop μ-loop loop-holds (λ c κs. search needs) mul-places slice-read-places (λ c κs. search needs) mul-places-2 slice-write-places
+    (λ c. search needs) (λ c. search needs) loop-again same-length returns)

@@ -11,9 +11,6 @@ use Rattle.compiler.specs.Answers.{Rowed}
 use Rattle.compiler.proofs.BufferLaws.{rowed-start, rowed-step, small-product, row-of, column-of}
 use Rattle.compiler.proofs.write_rows.Statement.{statement}
 use Rattle.compiler.proofs.write_rows.Tie as tie
-use Rattle.compiler.proofs.write_rows.Reads as reads
-use Rattle.compiler.proofs.write_rows.Lts as lts
-use Rattle.numbering.proofs.move_of.Reads as move-of-reads
 
 abbrev Inv-loop : tie.InvT-loop
 Inv-loop places k follow first sets n buffer₀ m t₀ buffer t = (m ≡ n * k) × (t ≤ n * k) × Rowed buffer₀ (λ (j : ℕ). numberIn sameState (listed sets n) (advanceIn places first follow (stateAt sets (j / k)) (j % k))) t buffer
@@ -27,29 +24,17 @@ mul-m c = let b = small-product (c .before .before .before .before .args .n) (c 
 loop-holds : tie.Need-loop-holds Inv-loop μ-loop
 loop-holds c = (refl, omega arith, rowed-start _ _)
 
-div-move-of : tie.Need-div-move-of Inv-loop μ-loop
-div-move-of c = search needs
-
-rem-move-of : tie.Need-rem-move-of Inv-loop μ-loop
-rem-move-of c = search needs
-
 move-of-requires : tie.Need-move-of-requires Inv-loop μ-loop
 move-of-requires c κs =
     let i = row-of (c .before .loop .t) (c .before .before .before .before .before .before .args .n) (c .before .before .before .before .before .before .args .k) (omega arith) (omega arith) in
     let j = column-of (c .before .loop .t) (c .before .before .before .before .before .before .args .k) (omega arith) in
     omega arith
 
-cast-buffer : tie.Need-cast-buffer Inv-loop μ-loop
-cast-buffer c = search needs
-
 add-buffer : tie.Need-add-buffer Inv-loop μ-loop
 add-buffer c = let b = small-product (c .before .before .before .before .before .before .before .args .n) (c .before .before .before .before .before .before .before .args .k) (omega arith) (omega arith) in omega arith
 
 slice-write-buffer : tie.Need-slice-write-buffer Inv-loop μ-loop
 slice-write-buffer c = let z = c .before .before .loop .inv .2 .size in omega arith
-
-add-t : tie.Need-add-t Inv-loop μ-loop
-add-t c = search needs
 
 loop-less : tie.Need-loop-less Inv-loop μ-loop
 loop-less c = omega arith
@@ -67,18 +52,5 @@ pub write-rows-spec : {M : Type 1} → statement M
 write-rows-spec =
     tie.close
     (tie.spec
-    Inv-loop
-    μ-loop
-    mul-m
-    loop-holds
-    div-move-of
-    rem-move-of
-    move-of-requires
-    cast-buffer
-    add-buffer
-    slice-write-buffer
-    add-t
-    loop-less
-    loop-again
-    same-length
-    returns)
+    Inv-loop μ-loop mul-m loop-holds (λ c. search needs) (λ c. search needs) move-of-requires (λ c. search needs) add-buffer slice-write-buffer
+    (λ c. search needs) loop-less loop-again same-length returns)

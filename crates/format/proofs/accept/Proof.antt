@@ -2,19 +2,6 @@ use Rattle.format.proofs.OutcomeLaws.{early, parts-fit, late, whole}
 use borrow.Author.Needs.{needs}
 use Rattle.format.proofs.accept.Statement.{statement}
 use Rattle.format.proofs.accept.Tie as tie
-use Rattle.format.proofs.accept.Reads as reads
-use Rattle.format.proofs.accept.Lts as lts
-use Rattle.format.proofs.refusal.Reads as refusal-reads
-use Rattle.layout.proofs.of_file.Reads as of-file-reads
-
-of-file-requires : tie.Need-of-file-requires
-of-file-requires c κs = search needs
-
-enum-known-n : tie.Need-enum-known-n
-enum-known-n c = search needs
-
-enum-known-p : tie.Need-enum-known-p
-enum-known-p c = search needs
 
 refusal-requires : tie.Need-refusal-requires
 refusal-requires c κs = parts-fit _ _ (c .before .before .before .of-file .ensures) _ (c .before .p .given .1)
@@ -32,10 +19,4 @@ pub accept-spec : {M : Type 1} → statement M
 accept-spec =
     tie.close
     (tie.spec
-    of-file-requires
-    enum-known-n
-    enum-known-p
-    refusal-requires
-    returns
-    returns-2
-    returns-3)
+    (λ c κs. search needs) (λ c. search needs) (λ c. search needs) refusal-requires returns returns-2 returns-3)

@@ -6,23 +6,6 @@ use Rattle.format.proofs.LentPartLaws.{rows-there, five, six, seven-or-
 use borrow.Author.Needs.{needs}
 use Rattle.format.proofs.refusal.Statement.{statement}
 use Rattle.format.proofs.refusal.Tie as tie
-use Rattle.format.proofs.refusal.Reads as reads
-use Rattle.format.proofs.refusal.Lts as lts
-use Rattle.automata.proofs.all_whole.Reads as all-whole-reads
-use Rattle.records.proofs.check.Reads as check-reads
-use Rattle.tables.proofs.file_low.Reads as file-low-reads
-
-sub-all-whole : tie.Need-sub-all-whole
-sub-all-whole c = search needs
-
-part-all-whole-start : tie.Need-part-all-whole-start
-part-all-whole-start c = search needs
-
-part-all-whole-end : tie.Need-part-all-whole-end
-part-all-whole-end c = search needs
-
-all-whole-requires : tie.Need-all-whole-requires
-all-whole-requires c κs = search needs
 
 returns : tie.Need-returns
 returns c = let s = c .before .before .before .before in five _ _ (s .pre) _ (c .before .all-whole .ensures) (not-true _ (c .if1 .taken))
@@ -38,18 +21,6 @@ returns-2 c =
     let s = c .before .before .before .before .before .before .before in
     six _ _ (s .pre) _ (c .before .before .before .before .all-whole .ensures) _ (c .before .file-low .ensures) (not-false _ (c .before .before .before .if1 .left)) (not-true _ (c .if2 .taken))
 
-sub-check : tie.Need-sub-check
-sub-check c = search needs
-
-part-check-start : tie.Need-part-check-start
-part-check-start c = search needs
-
-part-check-end : tie.Need-part-check-end
-part-check-end c = search needs
-
-check-requires : tie.Need-check-requires
-check-requires c κs = search needs
-
 returns-3 : tie.Need-returns-3
 returns-3 c =
     let s = c .before .before .before .before .before .before .before .before .before in
@@ -60,16 +31,5 @@ pub refusal-spec : {M : Type 1} → statement M
 refusal-spec =
     tie.close
     (tie.spec
-    sub-all-whole
-    part-all-whole-start
-    part-all-whole-end
-    all-whole-requires
-    returns
-    slice-aggregate-file-low
-    file-low-requires
-    returns-2
-    sub-check
-    part-check-start
-    part-check-end
-    check-requires
-    returns-3)
+    (λ c. search needs) (λ c. search needs) (λ c. search needs) (λ c κs. search needs) returns slice-aggregate-file-low file-low-requires returns-2
+    (λ c. search needs) (λ c. search needs) (λ c. search needs) (λ c κs. search needs) returns-3)

@@ -2,14 +2,6 @@ use Rattle.index.proofs.KindLaws.{changed-none, changed-some}
 use borrow.Author.Needs.{needs}
 use Rattle.index.proofs.if_changed.Statement.{statement}
 use Rattle.index.proofs.if_changed.Tie as tie
-use Rattle.index.proofs.if_changed.Reads as reads
-use Rattle.index.proofs.if_changed.Lts as lts
-
-mul-result : tie.Need-mul-result
-mul-result c = search needs
-
-shared-slice-read-result : tie.Need-shared-slice-read-result
-shared-slice-read-result c = search needs
 
 returns : tie.Need-returns
 returns c = changed-some _ _ (c .before .if1 .taken)
@@ -18,4 +10,4 @@ returns-2 : tie.Need-returns-2
 returns-2 c = changed-none _ _ (c .if1 .left)
 
 pub if-changed-spec : {M : Type 1} → statement M
-if-changed-spec = tie.close (tie.spec mul-result shared-slice-read-result returns returns-2)
+if-changed-spec = tie.close (tie.spec (λ c. search needs) (λ c. search needs) returns returns-2)

@@ -6,10 +6,6 @@ use Rattle.index.proofs.LentLaws.{Agree, agree-start, agree-step, agree
 use borrow.Author.Needs.{needs}
 use Rattle.index.proofs.is_of_file.Statement.{statement}
 use Rattle.index.proofs.is_of_file.Tie as tie
-use Rattle.index.proofs.is_of_file.Reads as reads
-use Rattle.index.proofs.is_of_file.Lts as lts
-use Rattle.index.proofs.lent_word.Reads as lent-word-reads
-use Rattle.index.proofs.of_file.Reads as of-file-reads
 
 abbrev Inv-loop : tie.InvT-loop
 Inv-loop file p index ix n i₀ i = (i ≤ n) × Agree index (indexOf (problemIn file p)) i
@@ -17,32 +13,14 @@ Inv-loop file p index ix n i₀ i = (i ≤ n) × Agree index (indexOf (problemIn
 abbrev μ-loop : tie.MeasureT-loop
 μ-loop file p index ix n i₀ i = n - i
 
-of-file-requires : tie.Need-of-file-requires Inv-loop μ-loop
-of-file-requires c κs = search needs
-
 loop-holds : tie.Need-loop-holds Inv-loop μ-loop
 loop-holds c = (search needs, agree-start _ _)
-
-mul-if1 : tie.Need-mul-if1 Inv-loop μ-loop
-mul-if1 c = search needs
-
-shared-slice-read-if1 : tie.Need-shared-slice-read-if1 Inv-loop μ-loop
-shared-slice-read-if1 c = search needs
-
-lent-word-requires : tie.Need-lent-word-requires Inv-loop μ-loop
-lent-word-requires c κs = search needs
 
 returns : tie.Need-returns Inv-loop μ-loop
 returns c =
     let o = c .before .before .before .before .before .before in
     let e = lent-here _ _ (o .before .before .before .pre .0) _ _ _ (c .before .lent-word .ensures) (o .of-file .ensures) in
     sym (disagree _ _ _ (λ q. c .if1 .taken (q ∙ sym e)))
-
-add-i : tie.Need-add-i Inv-loop μ-loop
-add-i c = search needs
-
-loop-less : tie.Need-loop-less Inv-loop μ-loop
-loop-less c = search needs
 
 loop-again : tie.Need-loop-again Inv-loop μ-loop
 loop-again c =
@@ -60,15 +38,5 @@ pub is-of-file-spec : {M : Type 1} → statement M
 is-of-file-spec =
     tie.close
     (tie.spec
-    Inv-loop
-    μ-loop
-    of-file-requires
-    loop-holds
-    mul-if1
-    shared-slice-read-if1
-    lent-word-requires
-    returns
-    add-i
-    loop-less
-    loop-again
-    returns-2)
+    Inv-loop μ-loop (λ c κs. search needs) loop-holds (λ c. search needs) (λ c. search needs) (λ c κs. search needs) returns (λ c. search needs)
+    (λ c. search needs) loop-again returns-2)

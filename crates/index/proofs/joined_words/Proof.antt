@@ -8,8 +8,6 @@ use Rattle.index.proofs.StandingLaws.{next-lent, union-step}
 use borrow.Author.Needs.{needs}
 use Rattle.index.proofs.joined_words.Statement.{statement}
 use Rattle.index.proofs.joined_words.Tie as tie
-use Rattle.index.proofs.joined_words.Reads as reads
-use Rattle.index.proofs.joined_words.Lts as lts
 
 abbrev Inv-loop : tie.InvT-loop
 Inv-loop index h at w₀ j₀ j-end w j = (j ≤ j-end) × (w ≡ union (map (λ i. word index (2 * i + h)) (take j at)))
@@ -20,12 +18,6 @@ abbrev μ-loop : tie.MeasureT-loop
 loop-holds : tie.Need-loop-holds Inv-loop μ-loop
 unfolding union
 loop-holds c = (search needs, refl)
-
-mul-w : tie.Need-mul-w Inv-loop μ-loop
-mul-w c = search needs
-
-array-read-w : tie.Need-array-read-w Inv-loop μ-loop
-array-read-w c = search needs
 
 mul-w-2 : tie.Need-mul-w-2 Inv-loop μ-loop
 mul-w-2 c =
@@ -51,12 +43,6 @@ shared-slice-read-w c =
     let k = next-lent (s .args .m) _ (search needs) (s .pre .1) _ (c .before .loop-test .taken) in
     search needs
 
-add-j : tie.Need-add-j Inv-loop μ-loop
-add-j c = search needs
-
-loop-less : tie.Need-loop-less Inv-loop μ-loop
-loop-less c = search needs
-
 loop-again : tie.Need-loop-again Inv-loop μ-loop
 loop-again c =
     let l = c .before .before in
@@ -76,16 +62,5 @@ pub joined-words-spec : {M : Type 1} → statement M
 joined-words-spec =
     tie.close
     (tie.spec
-    Inv-loop
-    μ-loop
-    loop-holds
-    mul-w
-    array-read-w
-    mul-w-2
-    add-w
-    mul-w-3
-    shared-slice-read-w
-    add-j
-    loop-less
-    loop-again
-    returns)
+    Inv-loop μ-loop loop-holds (λ c. search needs) (λ c. search needs) mul-w-2 add-w mul-w-3 shared-slice-read-w (λ c. search needs) (λ c. search needs)
+    loop-again returns)

@@ -5,11 +5,6 @@ use Rattle.index.proofs.NotingLaws.{noting-first, noting-all, noting-fi
 use borrow.Author.Needs.{needs}
 use Rattle.index.proofs.of_file.Statement.{statement}
 use Rattle.index.proofs.of_file.Tie as tie
-use Rattle.index.proofs.of_file.Reads as reads
-use Rattle.index.proofs.of_file.Lts as lts
-use Rattle.index.proofs.noted.Reads as noted-reads
-use Rattle.records.proofs.at.Reads as at-reads
-use Rattle.words.proofs.singleton.Reads as singleton-reads
 
 abbrev Inv-loop : tie.InvT-loop
 Inv-loop file p start end ix₀ j₀ j-end ix j = (j ≤ j-end) × Named (problemIn file p) j ix
@@ -20,43 +15,16 @@ abbrev μ-loop : tie.MeasureT-loop
 loop-holds : tie.Need-loop-holds Inv-loop μ-loop
 loop-holds c = (search needs, noting-first _)
 
-sub-at : tie.Need-sub-at Inv-loop μ-loop
-sub-at c = search needs
-
-part-at-start : tie.Need-part-at-start Inv-loop μ-loop
-part-at-start c = search needs
-
-part-at-end : tie.Need-part-at-end Inv-loop μ-loop
-part-at-end c = search needs
-
-at-requires : tie.Need-at-requires Inv-loop μ-loop
-at-requires c κs = search needs
-
-enum-known-r : tie.Need-enum-known-r Inv-loop μ-loop
-enum-known-r c = search needs
-
-enum-told : tie.Need-enum-told Inv-loop μ-loop
-enum-told c = search needs
-
 returns : tie.Need-returns Inv-loop μ-loop
 returns c =
     let l = c .before .before .before .before in
     noting-all _ _ (l .before .before .before .pre) _ (l .loop-test .taken) _ (c .before .before .at .ensures) (c .enum-told .given .1)
-
-singleton-requires : tie.Need-singleton-requires Inv-loop μ-loop
-singleton-requires c κs = search needs
 
 noted-requires : tie.Need-noted-requires Inv-loop μ-loop
 noted-requires c κs =
     let k = c .before .before in
     let l = k .before .before .before .before in
     noting-fits _ _ (l .before .before .before .pre) _ (l .loop-test .taken) _ (k .before .before .at .ensures) _ (k .r .given .1)
-
-add-j : tie.Need-add-j Inv-loop μ-loop
-add-j c = search needs
-
-loop-less : tie.Need-loop-less Inv-loop μ-loop
-loop-less c = search needs
 
 loop-again : tie.Need-loop-again Inv-loop μ-loop
 loop-again c =
@@ -74,19 +42,5 @@ pub of-file-spec : {M : Type 1} → statement M
 of-file-spec =
     tie.close
     (tie.spec
-    Inv-loop
-    μ-loop
-    loop-holds
-    sub-at
-    part-at-start
-    part-at-end
-    at-requires
-    enum-known-r
-    enum-told
-    returns
-    singleton-requires
-    noted-requires
-    add-j
-    loop-less
-    loop-again
-    returns-2)
+    Inv-loop μ-loop loop-holds (λ c. search needs) (λ c. search needs) (λ c. search needs) (λ c κs. search needs) (λ c. search needs) (λ c. search needs)
+    returns (λ c κs. search needs) noted-requires (λ c. search needs) (λ c. search needs) loop-again returns-2)

@@ -3,12 +3,6 @@ use Rattle.index.proofs.LentLaws.{step-inside, step-outside}
 use borrow.Author.Needs.{needs}
 use Rattle.index.proofs.step_half.Statement.{statement}
 use Rattle.index.proofs.step_half.Tie as tie
-use Rattle.index.proofs.step_half.Reads as reads
-use Rattle.index.proofs.step_half.Lts as lts
-use Rattle.words.proofs.singleton.Reads as singleton-reads
-
-singleton-requires : tie.Need-singleton-requires
-singleton-requires c κs = search needs
 
 returns : tie.Need-returns
 returns c = c .singleton .ensures ∙ step-inside _ _ (c .before .if1 .taken)
@@ -17,4 +11,4 @@ returns-2 : tie.Need-returns-2
 returns-2 c = step-outside _ _ (c .if1 .left)
 
 pub step-half-spec : {M : Type 1} → statement M
-step-half-spec = tie.close (tie.spec singleton-requires returns returns-2)
+step-half-spec = tie.close (tie.spec (λ c κs. search needs) returns returns-2)

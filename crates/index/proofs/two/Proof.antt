@@ -1,18 +1,9 @@
 use borrow.Author.Needs.{needs}
 use Rattle.index.proofs.two.Statement.{statement}
 use Rattle.index.proofs.two.Tie as tie
-use Rattle.index.proofs.two.Reads as reads
-use Rattle.index.proofs.two.Lts as lts
-use Rattle.index.proofs.if_changed.Reads as if-changed-reads
-
-if-changed-requires : tie.Need-if-changed-requires
-if-changed-requires c κs = search needs
-
-if-changed-requires-2 : tie.Need-if-changed-requires-2
-if-changed-requires-2 c κs = search needs
 
 returns : tie.Need-returns
 returns c = cc
 
 pub two-spec : {M : Type 1} → statement M
-two-spec = tie.close (tie.spec if-changed-requires if-changed-requires-2 returns)
+two-spec = tie.close (tie.spec (λ c κs. search needs) (λ c κs. search needs) returns)

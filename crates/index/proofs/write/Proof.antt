@@ -8,10 +8,6 @@ use Rattle.index.proofs.LentLaws.{lent-length, lent-here}
 use borrow.Author.Needs.{needs}
 use Rattle.index.proofs.write.Statement.{statement}
 use Rattle.index.proofs.write.Tie as tie
-use Rattle.index.proofs.write.Reads as reads
-use Rattle.index.proofs.write.Lts as lts
-use Rattle.index.proofs.lent_word.Reads as lent-word-reads
-use Rattle.index.proofs.of_file.Reads as of-file-reads
 
 abbrev Inv-loop : tie.InvT-loop
 Inv-loop file p index₀ ix n i₀ index i = (i ≤ n) × Copied (indexOf (problemIn file p)) index₀ i index
@@ -19,26 +15,8 @@ Inv-loop file p index₀ ix n i₀ index i = (i ≤ n) × Copied (indexOf (probl
 abbrev μ-loop : tie.MeasureT-loop
 μ-loop file p index₀ ix n i₀ index i = n - i
 
-of-file-requires : tie.Need-of-file-requires Inv-loop μ-loop
-of-file-requires c κs = search needs
-
 loop-holds : tie.Need-loop-holds Inv-loop μ-loop
 loop-holds c = (search needs, copied-start _ _)
-
-lent-word-requires : tie.Need-lent-word-requires Inv-loop μ-loop
-lent-word-requires c κs = search needs
-
-mul-index : tie.Need-mul-index Inv-loop μ-loop
-mul-index c = search needs
-
-slice-write-index : tie.Need-slice-write-index Inv-loop μ-loop
-slice-write-index c = search needs
-
-add-i : tie.Need-add-i Inv-loop μ-loop
-add-i c = search needs
-
-loop-less : tie.Need-loop-less Inv-loop μ-loop
-loop-less c = search needs
 
 loop-again : tie.Need-loop-again Inv-loop μ-loop
 loop-again c =
@@ -61,15 +39,5 @@ pub write-spec : {M : Type 1} → statement M
 write-spec =
     tie.close
     (tie.spec
-    Inv-loop
-    μ-loop
-    of-file-requires
-    loop-holds
-    lent-word-requires
-    mul-index
-    slice-write-index
-    add-i
-    loop-less
-    loop-again
-    same-length
-    returns)
+    Inv-loop μ-loop (λ c κs. search needs) loop-holds (λ c κs. search needs) (λ c. search needs) (λ c. search needs) (λ c. search needs) (λ c. search needs)
+    loop-again same-length returns)

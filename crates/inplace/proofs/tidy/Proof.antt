@@ -5,12 +5,6 @@ use Rattle.inplace.proofs.Tables.{tidy-empty, tidy-none, tidy-some}
 use borrow.Author.Needs.{needs}
 use Rattle.inplace.proofs.tidy.Statement.{statement}
 use Rattle.inplace.proofs.tidy.Tie as tie
-use Rattle.inplace.proofs.tidy.Reads as reads
-use Rattle.inplace.proofs.tidy.Lts as lts
-use Rattle.inplace.proofs.clear.Reads as clear-reads
-use Rattle.inplace.proofs.run.Reads as run-reads
-use Rattle.words.proofs.highest.Reads as highest-reads
-use Rattle.words.proofs.low_mask.Reads as low-mask-reads
 
 -- src/lib.rt:61:13
 mul-a : tie.Need-mul-a
@@ -91,18 +85,5 @@ pub tidy-spec : {M : Type 1} → statement M
 tidy-spec =
     tie.close
     (tie.spec
-    mul-a
-    mul-old
-    slice-read-old
-    returns
-    highest-requires
-    run-requires
-    low-mask-requires
-    same-length
-    returns-2
-    mul-t
-    slice-write-t
-    highest-requires-2
-    clear-requires
-    same-length-2
-    returns-3)
+    mul-a mul-old slice-read-old returns highest-requires run-requires low-mask-requires same-length returns-2 mul-t slice-write-t highest-requires-2
+    clear-requires same-length-2 returns-3)

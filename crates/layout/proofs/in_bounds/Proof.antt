@@ -5,8 +5,6 @@ use Rattle.layout.specs.Heads.{headOf}
 use Rattle.layout.proofs.TrailerLaws.{spare-decides}
 use Rattle.layout.proofs.in_bounds.Statement.{statement}
 use Rattle.layout.proofs.in_bounds.Tie as tie
-use Rattle.layout.proofs.in_bounds.Reads as reads
-use Rattle.layout.proofs.in_bounds.Lts as lts
 
 returns : tie.Need-returns
 unfolding inBounds headOf

@@ -4,30 +4,14 @@ use Rattle.layout.proofs.ReplyOfLaws.{short-refused, unmarked-refused, 
 use borrow.Author.Needs.{needs}
 use Rattle.layout.proofs.of_file.Statement.{statement}
 use Rattle.layout.proofs.of_file.Tie as tie
-use Rattle.layout.proofs.of_file.Reads as reads
-use Rattle.layout.proofs.of_file.Lts as lts
-use Rattle.layout.proofs.abut.Reads as abut-reads
-use Rattle.layout.proofs.in_bounds.Reads as in-bounds-reads
-use Rattle.layout.proofs.marked.Reads as marked-reads
-use Rattle.layout.proofs.place.Reads as place-reads
-use Rattle.layout.proofs.read.Reads as read-reads
 
 returns : tie.Need-returns
 returns c = (short-refused (c .before .before .args .file .now) (c .if1 .taken), tt)
-
-marked-requires : tie.Need-marked-requires
-marked-requires c κs = search needs
 
 returns-2 : tie.Need-returns-2
 returns-2 c =
     let s = c .before .before .before .before in
     (unmarked-refused (s .args .file .now) (c .before .before .if1 .left) (sym (c .before .marked .ensures) ∙ not-true _ (c .if2 .taken)), tt)
-
-read-requires : tie.Need-read-requires
-read-requires c κs = search needs
-
-in-bounds-requires : tie.Need-in-bounds-requires
-in-bounds-requires c κs = search needs
 
 returns-3 : tie.Need-returns-3
 returns-3 c =
@@ -38,9 +22,6 @@ returns-3 c =
       tt,
     )
 
-abut-requires : tie.Need-abut-requires
-abut-requires c κs = search needs
-
 returns-4 : tie.Need-returns-4
 returns-4 c =
     let b = c .before .before in
@@ -50,12 +31,6 @@ returns-4 c =
           (sym (b .before .in-bounds .ensures) ∙ not-false _ (b .if3 .left)) (sym (c .before .abut .ensures) ∙ not-true _ (c .if4 .taken)),
       tt,
     )
-
-sub-place : tie.Need-sub-place
-sub-place c = search needs
-
-place-requires : tie.Need-place-requires
-place-requires c κs = search needs
 
 returns-5 : tie.Need-returns-5
 returns-5 c =
@@ -75,14 +50,5 @@ pub of-file-spec : {M : Type 1} → statement M
 of-file-spec =
     tie.close
     (tie.spec
-    returns
-    marked-requires
-    returns-2
-    read-requires
-    in-bounds-requires
-    returns-3
-    abut-requires
-    returns-4
-    sub-place
-    place-requires
-    returns-5)
+    returns (λ c κs. search needs) returns-2 (λ c κs. search needs) (λ c κs. search needs) returns-3 (λ c κs. search needs) returns-4 (λ c. search needs)
+    (λ c κs. search needs) returns-5)

@@ -4,18 +4,9 @@ use Rattle.listing.proofs.ReportLaws.{printed-nothing, printed-after}
 use borrow.Author.Needs.{needs}
 use Rattle.listing.proofs.answer.Statement.{statement}
 use Rattle.listing.proofs.answer.Tie as tie
-use Rattle.listing.proofs.answer.Reads as reads
-use Rattle.listing.proofs.answer.Lts as lts
-use Rattle.listing.proofs.report.Reads as report-reads
 
 returns : tie.Need-returns
 returns c = let s = c .before .before .before in rw (printed-nothing (s .args .input .now) (s .args .lines .now) (omega arith)) (refl, refl)
-
-report-requires : tie.Need-report-requires
-report-requires c κs = search needs
-
-same-length : tie.Need-same-length
-same-length c = search needs
 
 returns-2 : tie.Need-returns-2
 returns-2 c =
@@ -24,4 +15,4 @@ returns-2 c =
     printed-after (s .args .input .now) (s .args .lines .now) (omega arith) _ _ (r .0) (r .1)
 
 pub answer-spec : {M : Type 1} → statement M
-answer-spec = tie.close (tie.spec returns report-requires same-length returns-2)
+answer-spec = tie.close (tie.spec returns (λ c κs. search needs) (λ c. search needs) returns-2)

@@ -2,11 +2,6 @@ use Rattle.listing.proofs.LineLaws.{first-capacity, field-capacity, new
 use borrow.Author.Needs.{needs}
 use Rattle.listing.proofs.ending.Statement.{statement}
 use Rattle.listing.proofs.ending.Tie as tie
-use Rattle.listing.proofs.ending.Reads as reads
-use Rattle.listing.proofs.ending.Lts as lts
-use Rattle.listing.proofs.marked.Reads as marked-reads
-use Rattle.listing.proofs.newline.Reads as newline-reads
-use Rattle.listing.proofs.put.Reads as put-reads
 
 put-requires : tie.Need-put-requires
 put-requires c κs = first-capacity _ _ _ (c .before .before .before .pre)
@@ -22,9 +17,6 @@ newline-requires c κs =
     let behind = end .before .before .before .before in
     newline-capacity _ _ _ (behind .before .before .before .before .pre) (behind .put .ensures) (end .marked .ensures) (no-fields _ _)
 
-same-length : tie.Need-same-length
-same-length c = search needs
-
 returns : tie.Need-returns
 returns c =
     let end = c .before .before .before .before .before .before in
@@ -33,4 +25,4 @@ returns c =
 
 pub ending-spec : {M : Type 1} → statement M
 ending-spec =
-    tie.close (tie.spec put-requires marked-requires newline-requires same-length returns)
+    tie.close (tie.spec put-requires marked-requires newline-requires (λ c. search needs) returns)

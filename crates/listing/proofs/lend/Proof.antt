@@ -5,18 +5,12 @@ use Rattle.listing.proofs.ReportLaws.{counted-range, lent-whole}
 use borrow.Author.Needs.{needs}
 use Rattle.listing.proofs.lend.Statement.{statement}
 use Rattle.listing.proofs.lend.Tie as tie
-use Rattle.listing.proofs.lend.Reads as reads
-use Rattle.listing.proofs.lend.Lts as lts
-use Rattle.listing.proofs.outcome.Reads as outcome-reads
 
 mul-words : tie.Need-mul-words
 mul-words c = let r = counted-range (c .before .before .pre .0) in omega (arith, r .0, r .1)
 
 add-words : tie.Need-add-words
 add-words c = let r = counted-range (c .before .before .pre .0) in omega (arith, r .0, r .1)
-
-slice-aggregate-outcome : tie.Need-slice-aggregate-outcome
-slice-aggregate-outcome c = search needs
 
 array-borrow-prefix-table : tie.Need-array-borrow-prefix-table
 array-borrow-prefix-table c = let r = counted-range (c .before .before .before .pre .0) in omega (arith, r .0, r .1)
@@ -29,9 +23,6 @@ slice-aggregate-outcome-2 c =
 outcome-requires : tie.Need-outcome-requires
 outcome-requires c κs = let s = c .before .before .before .before .before in lent-whole (s .pre .0) _ (s .pre .1)
 
-same-length : tie.Need-same-length
-same-length c = search needs
-
 returns : tie.Need-returns
 returns c = search needs
 
@@ -39,11 +30,4 @@ pub lend-spec : {M : Type 1} → statement M
 lend-spec =
     tie.close
     (tie.spec
-    mul-words
-    add-words
-    slice-aggregate-outcome
-    array-borrow-prefix-table
-    slice-aggregate-outcome-2
-    outcome-requires
-    same-length
-    returns)
+    mul-words add-words (λ c. search needs) array-borrow-prefix-table slice-aggregate-outcome-2 outcome-requires (λ c. search needs) returns)

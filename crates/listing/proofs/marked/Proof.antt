@@ -3,15 +3,9 @@ use Rattle.model.specs.Listing.{decimal}
 use borrow.Author.Needs.{needs}
 use Rattle.listing.proofs.marked.Statement.{statement}
 use Rattle.listing.proofs.marked.Tie as tie
-use Rattle.listing.proofs.marked.Reads as reads
-use Rattle.listing.proofs.marked.Lts as lts
-use Rattle.listing.proofs.numeral.Reads as numeral-reads
 
 slice-write-lines : tie.Need-slice-write-lines
 slice-write-lines c = let r = c .before .pre .fits in search needs
-
-add-numeral : tie.Need-add-numeral
-add-numeral c = search needs
 
 numeral-requires : tie.Need-numeral-requires
 numeral-requires c κs = let s = c .before .before in capacity-rest (wrote-byte _ _ (s .args .mark)) (decimal (s .args .n)) (s .pre)
@@ -26,4 +20,4 @@ returns c = wrote-append (wrote-byte _ _ _) (c .before .before .numeral .ensures
 
 pub marked-spec : {M : Type 1} → statement M
 marked-spec =
-    tie.close (tie.spec slice-write-lines add-numeral numeral-requires same-length returns)
+    tie.close (tie.spec slice-write-lines (λ c. search needs) numeral-requires same-length returns)

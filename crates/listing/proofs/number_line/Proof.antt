@@ -3,18 +3,10 @@ use Rattle.model.specs.Listing.{numberLine}
 use borrow.Author.Needs.{needs}
 use Rattle.listing.proofs.number_line.Statement.{statement}
 use Rattle.listing.proofs.number_line.Tie as tie
-use Rattle.listing.proofs.number_line.Reads as reads
-use Rattle.listing.proofs.number_line.Lts as lts
-use Rattle.listing.proofs.marked.Reads as marked-reads
-use Rattle.listing.proofs.newline.Reads as newline-reads
-use Rattle.listing.proofs.value.Reads as value-reads
 
 marked-requires : tie.Need-marked-requires
 unfolding numberLine
 marked-requires c κs = first-capacity _ _ _ (c .before .before .pre)
-
-value-requires : tie.Need-value-requires
-value-requires c κs = search needs
 
 marked-requires-2 : tie.Need-marked-requires-2
 unfolding numberLine
@@ -30,9 +22,6 @@ newline-requires c κs =
     let field = rw (end .before .before .value .ensures) at (end .marked2 .ensures) in
     newline-capacity _ _ _ (position .before .before .before .pre) (position .marked .ensures) field (no-fields _ _)
 
-same-length : tie.Need-same-length
-same-length c = search needs
-
 returns : tie.Need-returns
 unfolding numberLine
 returns c =
@@ -45,9 +34,4 @@ pub number-line-spec : {M : Type 1} → statement M
 number-line-spec =
     tie.close
     (tie.spec
-    marked-requires
-    value-requires
-    marked-requires-2
-    newline-requires
-    same-length
-    returns)
+    marked-requires (λ c κs. search needs) marked-requires-2 newline-requires (λ c. search needs) returns)

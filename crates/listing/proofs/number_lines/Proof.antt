@@ -11,9 +11,6 @@ use Rattle.listing.specs.TableLines.{onlyValue, wordLines}
 use borrow.Author.Needs.{needs}
 use Rattle.listing.proofs.number_lines.Statement.{statement}
 use Rattle.listing.proofs.number_lines.Tie as tie
-use Rattle.listing.proofs.number_lines.Reads as reads
-use Rattle.listing.proofs.number_lines.Lts as lts
-use Rattle.listing.proofs.number_line.Reads as number-line-reads
 
 abbrev Inv-loop : tie.InvT-loop
 Inv-loop words lines₀ at end₀ x₀ x-end lines end x = (x ≤ length words) × Wrote lines₀ at (flatMap (λ x. numberLine x (onlyValue (getD words x 0))) (take x (upto (length words)))) lines end
@@ -26,24 +23,12 @@ loop-holds c =
     let s = c .before .before in
     (search needs, each-start (λ x. numberLine x (onlyValue (getD (s .args .words .now) x 0))) (upto (length (s .args .words .now))))
 
-mul-number-line : tie.Need-mul-number-line Inv-loop μ-loop
-mul-number-line c = search needs
-
-shared-slice-read-number-line : tie.Need-shared-slice-read-number-line Inv-loop μ-loop
-shared-slice-read-number-line c = search needs
-
 number-line-requires : tie.Need-number-line-requires Inv-loop μ-loop
 unfolding wordLines
 number-line-requires c κs =
     let s = c .before .before .before .before .before .before in
     let k = c .before .before .before .loop in
     count-capacity (λ x. numberLine x (onlyValue (getD (s .args .words .now) x 0))) (length (s .args .words .now)) (k .x) (omega arith) (k .inv .1) (s .pre)
-
-add-x : tie.Need-add-x Inv-loop μ-loop
-add-x c = search needs
-
-loop-less : tie.Need-loop-less Inv-loop μ-loop
-loop-less c = search needs
 
 loop-again : tie.Need-loop-again Inv-loop μ-loop
 loop-again c =
@@ -64,14 +49,5 @@ pub number-lines-spec : {M : Type 1} → statement M
 number-lines-spec =
     tie.close
     (tie.spec
-    Inv-loop
-    μ-loop
-    loop-holds
-    mul-number-line
-    shared-slice-read-number-line
-    number-line-requires
-    add-x
-    loop-less
-    loop-again
-    same-length
+    Inv-loop μ-loop loop-holds (λ c. search needs) (λ c. search needs) number-line-requires (λ c. search needs) (λ c. search needs) loop-again same-length
     returns)

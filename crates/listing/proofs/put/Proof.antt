@@ -6,8 +6,6 @@ use native.Mathlib.Omega.{arith}
 use borrow.Author.Needs.{needs}
 use Rattle.listing.proofs.put.Statement.{statement}
 use Rattle.listing.proofs.put.Tie as tie
-use Rattle.listing.proofs.put.Reads as reads
-use Rattle.listing.proofs.put.Lts as lts
 
 abbrev Inv-loop : tie.InvT-loop
 Inv-loop bytes lines₀ at i₀ i-end lines i = (i ≤ length bytes) × Wrote lines₀ at (take i bytes) lines (at + i)
@@ -18,20 +16,11 @@ abbrev μ-loop : tie.MeasureT-loop
 loop-holds : tie.Need-loop-holds Inv-loop μ-loop
 loop-holds c = (search needs, put-start _ _)
 
-shared-slice-read-lines : tie.Need-shared-slice-read-lines Inv-loop μ-loop
-shared-slice-read-lines c = search needs
-
 add-lines : tie.Need-add-lines Inv-loop μ-loop
 add-lines c = let r = c .before .before .before .pre .fits in search needs
 
 slice-write-lines : tie.Need-slice-write-lines Inv-loop μ-loop
 slice-write-lines c = let r = c .before .before .before .pre .fits in omega (arith, wrote-length (c .before .before .loop .inv .1))
-
-add-i : tie.Need-add-i Inv-loop μ-loop
-add-i c = search needs
-
-loop-less : tie.Need-loop-less Inv-loop μ-loop
-loop-less c = search needs
 
 loop-again : tie.Need-loop-again Inv-loop μ-loop
 loop-again c = (search needs, put-step _ (c .before .before .loop .inv .1) (omega arith))
@@ -49,15 +38,5 @@ pub put-spec : {M : Type 1} → statement M
 put-spec =
     tie.close
     (tie.spec
-    Inv-loop
-    μ-loop
-    loop-holds
-    shared-slice-read-lines
-    add-lines
-    slice-write-lines
-    add-i
-    loop-less
-    loop-again
-    add-result
-    same-length
+    Inv-loop μ-loop loop-holds (λ c. search needs) add-lines slice-write-lines (λ c. search needs) (λ c. search needs) loop-again add-result same-length
     returns)

@@ -13,9 +13,6 @@ use Rattle.listing.specs.TableLines.{textOf, rowLines}
 use borrow.Author.Needs.{needs}
 use Rattle.listing.proofs.string_lines.Statement.{statement}
 use Rattle.listing.proofs.string_lines.Tie as tie
-use Rattle.listing.proofs.string_lines.Reads as reads
-use Rattle.listing.proofs.string_lines.Lts as lts
-use Rattle.listing.proofs.string_line.Reads as string-line-reads
 
 abbrev Inv-loop : tie.InvT-loop
 Inv-loop table s lines₀ at end₀ x₀ lines end x = (x ≤ s) × Wrote lines₀ at (flatMap (λ x. stringLine x (textOf (row table x))) (take x (upto s))) lines end
@@ -26,36 +23,12 @@ abbrev μ-loop : tie.MeasureT-loop
 loop-holds : tie.Need-loop-holds Inv-loop μ-loop
 loop-holds c = let s = c .before .before in (search needs, each-start (λ x. stringLine x (textOf (row (s .args .table .now) x))) (upto (s .args .s)))
 
-mul-first : tie.Need-mul-first Inv-loop μ-loop
-mul-first c = search needs
-
-add-string-line : tie.Need-add-string-line Inv-loop μ-loop
-add-string-line c = search needs
-
-mul-string-line : tie.Need-mul-string-line Inv-loop μ-loop
-mul-string-line c = search needs
-
-sub-string-line : tie.Need-sub-string-line Inv-loop μ-loop
-sub-string-line c = search needs
-
-part-string-line-start : tie.Need-part-string-line-start Inv-loop μ-loop
-part-string-line-start c = search needs
-
-part-string-line-end : tie.Need-part-string-line-end Inv-loop μ-loop
-part-string-line-end c = search needs
-
 string-line-requires : tie.Need-string-line-requires Inv-loop μ-loop
 unfolding rowLines
 string-line-requires c κs =
     let s = c .before .before .before .before .before .before in
     let k = c .before .before .before .loop in
     part-ready (s .args .table .now) (s .args .s) (k .x) (s .pre .0) (omega arith) (s .pre .1) (count-capacity (λ x. stringLine x (textOf (row (s .args .table .now) x))) (s .args .s) (k .x) (omega arith) (k .inv .1) (s .pre .2))
-
-add-x : tie.Need-add-x Inv-loop μ-loop
-add-x c = search needs
-
-loop-less : tie.Need-loop-less Inv-loop μ-loop
-loop-less c = search needs
 
 loop-again : tie.Need-loop-again Inv-loop μ-loop
 loop-again c =
@@ -76,18 +49,5 @@ pub string-lines-spec : {M : Type 1} → statement M
 string-lines-spec =
     tie.close
     (tie.spec
-    Inv-loop
-    μ-loop
-    loop-holds
-    mul-first
-    add-string-line
-    mul-string-line
-    sub-string-line
-    part-string-line-start
-    part-string-line-end
-    string-line-requires
-    add-x
-    loop-less
-    loop-again
-    same-length
-    returns)
+    Inv-loop μ-loop loop-holds (λ c. search needs) (λ c. search needs) (λ c. search needs) (λ c. search needs) (λ c. search needs) (λ c. search needs)
+    string-line-requires (λ c. search needs) (λ c. search needs) loop-again same-length returns)

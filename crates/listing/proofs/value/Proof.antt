@@ -4,8 +4,6 @@ use native.Mathlib.Omega.{arith}
 use borrow.Author.Needs.{needs}
 use Rattle.listing.proofs.value.Statement.{statement}
 use Rattle.listing.proofs.value.Tie as tie
-use Rattle.listing.proofs.value.Reads as reads
-use Rattle.listing.proofs.value.Lts as lts
 
 cast-result : tie.Need-cast-result
 cast-result c = omega (arith, trailing-le 64 (c .args .domain))

@@ -11,10 +11,6 @@ use Rattle.listing.specs.TableLines.{onlyValue}
 use borrow.Author.Needs.{needs}
 use Rattle.listing.proofs.values.Statement.{statement}
 use Rattle.listing.proofs.values.Tie as tie
-use Rattle.listing.proofs.values.Reads as reads
-use Rattle.listing.proofs.values.Lts as lts
-use Rattle.listing.proofs.marked.Reads as marked-reads
-use Rattle.listing.proofs.value.Reads as value-reads
 
 abbrev Inv-loop : tie.InvT-loop
 Inv-loop domains lines₀ at end₀ i₀ i-end lines end i = (i ≤ length domains) × Wrote lines₀ at (flatMap (λ w. field (onlyValue w)) (take i domains)) lines end
@@ -25,27 +21,12 @@ abbrev μ-loop : tie.MeasureT-loop
 loop-holds : tie.Need-loop-holds Inv-loop μ-loop
 loop-holds c = (search needs, each-start (λ w. field (onlyValue w)) (c .before .before .args .domains .now))
 
-mul-value : tie.Need-mul-value Inv-loop μ-loop
-mul-value c = search needs
-
-shared-slice-read-value : tie.Need-shared-slice-read-value Inv-loop μ-loop
-shared-slice-read-value c = search needs
-
-value-requires : tie.Need-value-requires Inv-loop μ-loop
-value-requires c κs = search needs
-
 marked-requires : tie.Need-marked-requires Inv-loop μ-loop
 unfolding field
 marked-requires c κs =
     let s = c .before .before .before .before .before .before .before in
     let k = c .before .before .before .before .loop in
     rw (c .before .value .ensures) (each-capacity (λ w. field (onlyValue w)) (s .args .domains .now) (k .i) (omega arith) (k .inv .1) (rw (flatMap-map field onlyValue (s .args .domains .now)) at (s .pre)))
-
-add-i : tie.Need-add-i Inv-loop μ-loop
-add-i c = search needs
-
-loop-less : tie.Need-loop-less Inv-loop μ-loop
-loop-less c = search needs
 
 loop-again : tie.Need-loop-again Inv-loop μ-loop
 unfolding field
@@ -66,15 +47,5 @@ pub values-spec : {M : Type 1} → statement M
 values-spec =
     tie.close
     (tie.spec
-    Inv-loop
-    μ-loop
-    loop-holds
-    mul-value
-    shared-slice-read-value
-    value-requires
-    marked-requires
-    add-i
-    loop-less
-    loop-again
-    same-length
-    returns)
+    Inv-loop μ-loop loop-holds (λ c. search needs) (λ c. search needs) (λ c κs. search needs) marked-requires (λ c. search needs) (λ c. search needs)
+    loop-again same-length returns)

@@ -16,8 +16,6 @@ use Rattle.laws.proofs.ListLaws.{of-all, getD-in}
 use Rattle.automata.specs.Machine.{Whole, stateCount}
 use Rattle.measure.proofs.parity.Statement.{statement}
 use Rattle.measure.proofs.parity.Tie as tie
-use Rattle.measure.proofs.parity.Reads as reads
-use Rattle.measure.proofs.parity.Lts as lts
 
 -- ---- a move put anew
 
@@ -104,30 +102,9 @@ Inv-loop d₀ i₀ d i = (i ≤ 63) × Made d
 abbrev μ-loop : tie.MeasureT-loop
 μ-loop d₀ i₀ d i = 63 - i
 
-array-write-d : tie.Need-array-write-d Inv-loop μ-loop
-array-write-d c = search needs
-
-array-write-d-2 : tie.Need-array-write-d-2 Inv-loop μ-loop
-array-write-d-2 c = search needs
-
-array-write-d-3 : tie.Need-array-write-d-3 Inv-loop μ-loop
-array-write-d-3 c = search needs
-
 loop-holds : tie.Need-loop-holds Inv-loop μ-loop
 unfolding bytes moves
 loop-holds c = (search needs, bytes-made)
-
-add-d : tie.Need-add-d Inv-loop μ-loop
-add-d c = search needs
-
-array-write-d-4 : tie.Need-array-write-d-4 Inv-loop μ-loop
-array-write-d-4 c = search needs
-
-add-i : tie.Need-add-i Inv-loop μ-loop
-add-i c = search needs
-
-loop-less : tie.Need-loop-less Inv-loop μ-loop
-loop-less c = search needs
 
 loop-again : tie.Need-loop-again Inv-loop μ-loop
 loop-again c = (search needs, move-made _ _ (c .before .loop .inv .1))
@@ -139,15 +116,5 @@ pub parity-spec : {M : Type 1} → statement M
 parity-spec =
     tie.close
     (tie.spec
-    Inv-loop
-    μ-loop
-    array-write-d
-    array-write-d-2
-    array-write-d-3
-    loop-holds
-    add-d
-    array-write-d-4
-    add-i
-    loop-less
-    loop-again
-    returns)
+    Inv-loop μ-loop (λ c. search needs) (λ c. search needs) (λ c. search needs) loop-holds (λ c. search needs) (λ c. search needs) (λ c. search needs)
+    (λ c. search needs) loop-again returns)

@@ -8,9 +8,6 @@ use Rattle.measure.proofs.StepLaws.{tidy-none, tidy-next}
 use borrow.Author.Needs.{needs}
 use Rattle.measure.proofs.tidy.Statement.{statement}
 use Rattle.measure.proofs.tidy.Tie as tie
-use Rattle.measure.proofs.tidy.Reads as reads
-use Rattle.measure.proofs.tidy.Lts as lts
-use Rattle.inplace.proofs.tidy.Reads as tidy-reads
 
 abbrev Inv-loop : tie.InvT-loop
 Inv-loop t₀ x₀ t x = (x ≤ 3) × TidyRows x t
@@ -21,29 +18,14 @@ abbrev μ-loop : tie.MeasureT-loop
 loop-holds : tie.Need-loop-holds Inv-loop μ-loop
 loop-holds c = (search needs, tidy-none _ (c .before .pre))
 
-tidy-requires : tie.Need-tidy-requires Inv-loop μ-loop
-tidy-requires c κs = search needs
-
-same-length : tie.Need-same-length Inv-loop μ-loop
-same-length c = search needs
-
 returns : tie.Need-returns Inv-loop μ-loop
 returns c = λ q. absurd (false≢true q)
-
-add-x : tie.Need-add-x Inv-loop μ-loop
-add-x c = search needs
-
-loop-less : tie.Need-loop-less Inv-loop μ-loop
-loop-less c = search needs
 
 loop-again : tie.Need-loop-again Inv-loop μ-loop
 loop-again c =
     let t = c .before .before .before in
     let g = t .before .before in
     (search needs, tidy-next (g .loop-test .taken) (g .before .loop .inv .1) (t .tidy .ensures) (not-false _ (c .if1 .left)))
-
-same-length-2 : tie.Need-same-length-2 Inv-loop μ-loop
-same-length-2 c = search needs
 
 returns-2 : tie.Need-returns-2 Inv-loop μ-loop
 returns-2 c =
@@ -54,14 +36,5 @@ pub tidy-spec : {M : Type 1} → statement M
 tidy-spec =
     tie.close
     (tie.spec
-    Inv-loop
-    μ-loop
-    loop-holds
-    tidy-requires
-    same-length
-    returns
-    add-x
-    loop-less
-    loop-again
-    same-length-2
+    Inv-loop μ-loop loop-holds (λ c κs. search needs) (λ c. search needs) returns (λ c. search needs) (λ c. search needs) loop-again (λ c. search needs)
     returns-2)

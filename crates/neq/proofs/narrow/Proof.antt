@@ -5,13 +5,6 @@ use Rattle.neq.proofs.WithoutLaws.{neq-several, neq-first, neq-second}
 use borrow.Author.Needs.{needs}
 use Rattle.neq.proofs.narrow.Statement.{statement}
 use Rattle.neq.proofs.narrow.Tie as tie
-use Rattle.neq.proofs.narrow.Reads as reads
-use Rattle.neq.proofs.narrow.Lts as lts
-use Rattle.neq.proofs.one_string.Reads as one-string-reads
-use Rattle.neq.proofs.without.Reads as without-reads
-
-one-string-requires : tie.Need-one-string-requires
-one-string-requires c κs = search needs
 
 without-requires : tie.Need-without-requires
 without-requires c κs =
@@ -26,9 +19,6 @@ without-requires c κs =
       one = not-true _ (sym (o .one-string .ensures) ∙ d .if1 .taken);
     }
 
-same-length : tie.Need-same-length
-same-length c = search needs
-
 returns : tie.Need-returns
 returns c =
     let w = c .before .before in
@@ -38,9 +28,6 @@ returns c =
     let a = k .before in
     neq-first _ _ _ (a .pre .0) (a .pre .1) (a .pre .2) (a .pre .3) (a .pre .4) (words-of (a .args .t .now) (λ i. k .slice-known .given i .fits))
     (not-true _ (sym (o .one-string .ensures) ∙ d .if1 .taken)) _ _ _ (w .without .ensures)
-
-one-string-requires-2 : tie.Need-one-string-requires-2
-one-string-requires-2 c κs = search needs
 
 without-requires-2 : tie.Need-without-requires-2
 without-requires-2 c κs =
@@ -55,9 +42,6 @@ without-requires-2 c κs =
       one = not-true _ (sym (o .one-string2 .ensures) ∙ d .if2 .taken);
     }
 
-same-length-2 : tie.Need-same-length-2
-same-length-2 c = search needs
-
 returns-2 : tie.Need-returns-2
 returns-2 c =
     let w = c .before .before in
@@ -68,9 +52,6 @@ returns-2 c =
     let a = k .before in
     neq-second _ _ _ (a .pre .0) (a .pre .1) (a .pre .2) (a .pre .3) (a .pre .4) (words-of (a .args .t .now) (λ i. k .slice-known .given i .fits))
     (not-true _ (sym (s .one-string2 .ensures) ∙ d .if2 .taken)) _ _ _ (w .without2 .ensures)
-
-same-length-3 : tie.Need-same-length-3
-same-length-3 c = search needs
 
 returns-3 : tie.Need-returns-3
 returns-3 c =
@@ -86,13 +67,5 @@ pub narrow-spec : {M : Type 1} → statement M
 narrow-spec =
     tie.close
     (tie.spec
-    one-string-requires
-    without-requires
-    same-length
-    returns
-    one-string-requires-2
-    without-requires-2
-    same-length-2
-    returns-2
-    same-length-3
-    returns-3)
+    (λ c κs. search needs) without-requires (λ c. search needs) returns (λ c κs. search needs) without-requires-2 (λ c. search needs) returns-2
+    (λ c. search needs) returns-3)

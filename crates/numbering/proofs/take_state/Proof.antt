@@ -6,10 +6,6 @@ use Rattle.numbering.proofs.StandLaws.{Tried, tried-start, tried-step, 
 use borrow.Author.Needs.{needs}
 use Rattle.numbering.proofs.take_state.Statement.{statement}
 use Rattle.numbering.proofs.take_state.Tie as tie
-use Rattle.numbering.proofs.take_state.Reads as reads
-use Rattle.numbering.proofs.take_state.Lts as lts
-use Rattle.numbering.proofs.ahead.Reads as ahead-reads
-use Rattle.numbering.proofs.try_symbol.Reads as try-symbol-reads
 
 abbrev Inv-loop : tie.InvT-loop
 Inv-loop places k follow first sets₀ q i here n₀ a₀ sets n a = (a ≤ k) × (length sets ≡ 33) × Tried places here sets₀ q a sets n
@@ -17,26 +13,14 @@ Inv-loop places k follow first sets₀ q i here n₀ a₀ sets n a = (a ≤ k) �
 abbrev μ-loop : tie.MeasureT-loop
 μ-loop places k follow first sets₀ q i here n₀ a₀ sets n a = k - a
 
-ahead-requires : tie.Need-ahead-requires Inv-loop μ-loop
-ahead-requires c κs = search needs
-
 loop-holds : tie.Need-loop-holds Inv-loop μ-loop
 loop-holds c = (search needs, search needs, tried-start _ _ _ _)
 
 try-symbol-requires : tie.Need-try-symbol-requires Inv-loop μ-loop
 try-symbol-requires c κs = let m = c .before .before .loop .inv .2 .more in omega arith
 
-add-a : tie.Need-add-a Inv-loop μ-loop
-add-a c = search needs
-
-loop-less : tie.Need-loop-less Inv-loop μ-loop
-loop-less c = search needs
-
 loop-again : tie.Need-loop-again Inv-loop μ-loop
 loop-again c = (search needs, search needs, tried-step _ _ _ _ _ _ _ _ _ (c .before .before .before .before .before .loop .inv .2) (c .before .before .try-symbol .ensures .1) (c .before .before .try-symbol .ensures .0))
-
-same-length : tie.Need-same-length Inv-loop μ-loop
-same-length c = search needs
 
 returns : tie.Need-returns Inv-loop μ-loop
 returns c = let e : c .before .loop .a ≡ c .before .before .before .before .before .before .before .args .k = omega arith in tried-end _ _ _ _ _ _ _ _ _ _ (c .before .before .ahead .ensures) (omega arith) (omega arith) (rw e at (c .before .loop .inv .2))
@@ -45,13 +29,4 @@ pub take-state-spec : {M : Type 1} → statement M
 take-state-spec =
     tie.close
     (tie.spec
-    Inv-loop
-    μ-loop
-    ahead-requires
-    loop-holds
-    try-symbol-requires
-    add-a
-    loop-less
-    loop-again
-    same-length
-    returns)
+    Inv-loop μ-loop (λ c κs. search needs) loop-holds try-symbol-requires (λ c. search needs) (λ c. search needs) loop-again (λ c. search needs) returns)

@@ -4,10 +4,6 @@ use Rattle.parser.proofs.Links.{Linking, link-start, link-step, link-en
 use borrow.Author.Needs.{needs}
 use Rattle.parser.proofs.link.Statement.{statement}
 use Rattle.parser.proofs.link.Tie as tie
-use Rattle.parser.proofs.link.Reads as reads
-use Rattle.parser.proofs.link.Lts as lts
-use Rattle.words.proofs.lowest.Reads as lowest-reads
-use Rattle.words.proofs.singleton.Reads as singleton-reads
 
 abbrev Inv-loop : tie.InvT-loop
 Inv-loop follow₀ last first rest₀ follow rest = Linking follow₀ last first rest follow
@@ -17,24 +13,6 @@ abbrev μ-loop : tie.MeasureT-loop
 
 loop-holds : tie.Need-loop-holds Inv-loop μ-loop
 loop-holds c = link-start _ _ _
-
-lowest-requires : tie.Need-lowest-requires Inv-loop μ-loop
-lowest-requires c κs = search needs
-
-mul-follow : tie.Need-mul-follow Inv-loop μ-loop
-mul-follow c = search needs
-
-slice-read-follow : tie.Need-slice-read-follow Inv-loop μ-loop
-slice-read-follow c = search needs
-
-mul-follow-2 : tie.Need-mul-follow-2 Inv-loop μ-loop
-mul-follow-2 c = search needs
-
-slice-write-follow : tie.Need-slice-write-follow Inv-loop μ-loop
-slice-write-follow c = search needs
-
-singleton-requires : tie.Need-singleton-requires Inv-loop μ-loop
-singleton-requires c κs = search needs
 
 sub-rest : tie.Need-sub-rest Inv-loop μ-loop
 sub-rest c = lowest-off _ _ _ (c .before .before .lowest .ensures) (c .singleton .ensures) .0
@@ -55,17 +33,5 @@ pub link-spec : {M : Type 1} → statement M
 link-spec =
     tie.close
     (tie.spec
-    Inv-loop
-    μ-loop
-    loop-holds
-    lowest-requires
-    mul-follow
-    slice-read-follow
-    mul-follow-2
-    slice-write-follow
-    singleton-requires
-    sub-rest
-    loop-less
-    loop-again
-    same-length
-    returns)
+    Inv-loop μ-loop loop-holds (λ c κs. search needs) (λ c. search needs) (λ c. search needs) (λ c. search needs) (λ c. search needs) (λ c κs. search needs)
+    sub-rest loop-less loop-again same-length returns)

@@ -2,11 +2,6 @@ use Rattle.parser.proofs.Bytes.{sees-in, sees-past}
 use borrow.Author.Needs.{needs}
 use Rattle.parser.proofs.sees.Statement.{statement}
 use Rattle.parser.proofs.sees.Tie as tie
-use Rattle.parser.proofs.sees.Reads as reads
-use Rattle.parser.proofs.sees.Lts as lts
-
-shared-slice-read-result : tie.Need-shared-slice-read-result
-shared-slice-read-result c = search needs
 
 returns : tie.Need-returns
 returns c = sees-in _ _ _ (c .before .if1 .taken)
@@ -15,4 +10,4 @@ returns-2 : tie.Need-returns-2
 returns-2 c = sees-past _ _ _ (c .if1 .left)
 
 pub sees-spec : {M : Type 1} → statement M
-sees-spec = tie.close (tie.spec shared-slice-read-result returns returns-2)
+sees-spec = tie.close (tie.spec (λ c. search needs) returns returns-2)

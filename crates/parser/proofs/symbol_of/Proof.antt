@@ -4,8 +4,6 @@ use Rattle.model.specs.PatternText.{symbolOf}
 use borrow.Author.Needs.{needs}
 use Rattle.parser.proofs.symbol_of.Statement.{statement}
 use Rattle.parser.proofs.symbol_of.Tie as tie
-use Rattle.parser.proofs.symbol_of.Reads as reads
-use Rattle.parser.proofs.symbol_of.Lts as lts
 
 returns : tie.Need-returns
 returns c = symbol-low _ (c .if1 .taken)
@@ -22,17 +20,11 @@ returns-4 : tie.Need-returns-4
 unfolding symbolOf
 returns-4 c = symbol-is _ 47 (c .if4 .taken)
 
-sub-result : tie.Need-sub-result
-sub-result c = search needs
-
 returns-5 : tie.Need-returns-5
 returns-5 c = symbol-digit _ (omega arith) (omega arith)
 
 returns-6 : tie.Need-returns-6
 returns-6 c = symbol-between _ (omega arith) (omega arith)
-
-sub-result-2 : tie.Need-sub-result-2
-sub-result-2 c = search needs
 
 returns-7 : tie.Need-returns-7
 returns-7 c = symbol-lower _ (omega arith) (omega arith)
@@ -44,13 +36,4 @@ pub symbol-of-spec : {M : Type 1} → statement M
 symbol-of-spec =
     tie.close
     (tie.spec
-    returns
-    returns-2
-    returns-3
-    returns-4
-    sub-result
-    returns-5
-    returns-6
-    sub-result-2
-    returns-7
-    returns-8)
+    returns returns-2 returns-3 returns-4 (λ c. search needs) returns-5 returns-6 (λ c. search needs) returns-7 returns-8)

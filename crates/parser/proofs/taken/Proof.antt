@@ -1,8 +1,6 @@
 use Rattle.model.specs.PatternStates.{when}
 use Rattle.parser.proofs.taken.Statement.{statement}
 use Rattle.parser.proofs.taken.Tie as tie
-use Rattle.parser.proofs.taken.Reads as reads
-use Rattle.parser.proofs.taken.Lts as lts
 
 returns : tie.Need-returns
 unfolding when

@@ -1,4 +1,4 @@
-use mathlib.Core.Path.{_≡_, refl, sym, _∙_}
+use mathlib.Core.Path.{refl, sym, _∙_}
 use Prim.Native.Nat.{_^_, _≤_}
 use native.Mathlib.Omega.{arith}
 use lib.Pow.{pow-pos}
@@ -7,10 +7,6 @@ use Rattle.queue.proofs.RingLaws.{Appending, appending-first, appending
 use borrow.Author.Needs.{needs}
 use Rattle.queue.proofs.append.Statement.{statement}
 use Rattle.queue.proofs.append.Tie as tie
-use Rattle.queue.proofs.append.Reads as reads
-use Rattle.queue.proofs.append.Lts as lts
-use Rattle.words.proofs.lowest.Reads as lowest-reads
-use Rattle.words.proofs.singleton.Reads as singleton-reads
 
 abbrev Inv-loop : tie.InvT-loop
 Inv-loop ring₀ tail w base rest₀ at₀ ring rest at = Appending ring₀ tail w base ring rest at
@@ -20,9 +16,6 @@ abbrev μ-loop : tie.MeasureT-loop
 
 loop-holds : tie.Need-loop-holds Inv-loop μ-loop
 loop-holds c = appending-first _ _ _ _ (c .before .pre .0)
-
-lowest-requires : tie.Need-lowest-requires Inv-loop μ-loop
-lowest-requires c κs = search needs
 
 add-ring : tie.Need-add-ring Inv-loop μ-loop
 add-ring c = let b = c .lowest .ensures .small in search needs
@@ -61,17 +54,5 @@ pub append-spec : {M : Type 1} → statement M
 append-spec =
     tie.close
     (tie.spec
-    Inv-loop
-    μ-loop
-    loop-holds
-    lowest-requires
-    add-ring
-    cast-ring
-    slice-write-ring
-    singleton-requires
-    sub-rest
-    add-at
-    loop-less
-    loop-again
-    same-length
-    returns)
+    Inv-loop μ-loop loop-holds (λ c κs. search needs) add-ring cast-ring slice-write-ring singleton-requires sub-rest add-at loop-less loop-again
+    same-length returns)

@@ -4,8 +4,6 @@ use Rattle.queue.proofs.RingLaws.{Filling, filling-first, filling-next,
 use borrow.Author.Needs.{needs}
 use Rattle.queue.proofs.fill.Statement.{statement}
 use Rattle.queue.proofs.fill.Tie as tie
-use Rattle.queue.proofs.fill.Reads as reads
-use Rattle.queue.proofs.fill.Lts as lts
 
 abbrev Inv-loop : tie.InvT-loop
 Inv-loop ring₀ n i₀ ring i = (i ≤ n) × Filling ring i
@@ -16,17 +14,8 @@ abbrev μ-loop : tie.MeasureT-loop
 loop-holds : tie.Need-loop-holds Inv-loop μ-loop
 loop-holds c = (search needs, filling-first _ (c .pre .0))
 
-cast-ring : tie.Need-cast-ring Inv-loop μ-loop
-cast-ring c = search needs
-
 slice-write-ring : tie.Need-slice-write-ring Inv-loop μ-loop
 slice-write-ring c = let f = c .before .loop .inv .1 .size in search needs
-
-add-i : tie.Need-add-i Inv-loop μ-loop
-add-i c = search needs
-
-loop-less : tie.Need-loop-less Inv-loop μ-loop
-loop-less c = search needs
 
 loop-again : tie.Need-loop-again Inv-loop μ-loop
 loop-again c = (search needs, filling-next _ _ (search needs) (c .before .loop .inv .1))
@@ -38,4 +27,4 @@ returns : tie.Need-returns Inv-loop μ-loop
 returns c = filling-last _ _ _ (search needs) (c .before .loop .inv .1)
 
 pub fill-spec : {M : Type 1} → statement M
-fill-spec = tie.close (tie.spec Inv-loop μ-loop loop-holds cast-ring slice-write-ring add-i loop-less loop-again same-length returns)
+fill-spec = tie.close (tie.spec Inv-loop μ-loop loop-holds (λ c. search needs) slice-write-ring (λ c. search needs) (λ c. search needs) loop-again same-length returns)

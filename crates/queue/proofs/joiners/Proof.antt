@@ -4,16 +4,9 @@ use Rattle.queue.proofs.PlaceLaws.{usable-steps, usable-few, places-len
 use borrow.Author.Needs.{needs}
 use Rattle.queue.proofs.joiners.Statement.{statement}
 use Rattle.queue.proofs.joiners.Tie as tie
-use Rattle.queue.proofs.joiners.Reads as reads
-use Rattle.queue.proofs.joiners.Lts as lts
-use Rattle.index.proofs.joined_words.Reads as joined-words-reads
-use Rattle.queue.proofs.places.Reads as places-reads
 
 returns : tie.Need-returns
 returns c = joins-none _ _ _ _ _ (not-true _ (c .if1 .taken))
-
-places-requires : tie.Need-places-requires
-places-requires c κs = search needs
 
 joined-words-requires : tie.Need-joined-words-requires
 joined-words-requires c κs =
@@ -40,4 +33,4 @@ returns-2 c =
 pub joiners-spec : {M : Type 1} → statement M
 joiners-spec =
     tie.close
-    (tie.spec returns places-requires joined-words-requires joined-words-requires-2 returns-2)
+    (tie.spec returns (λ c κs. search needs) joined-words-requires joined-words-requires-2 returns-2)

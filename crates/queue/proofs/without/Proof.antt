@@ -2,12 +2,6 @@ use Rattle.queue.proofs.PlaceLaws.{without-here, without-other}
 use borrow.Author.Needs.{needs}
 use Rattle.queue.proofs.without.Statement.{statement}
 use Rattle.queue.proofs.without.Tie as tie
-use Rattle.queue.proofs.without.Reads as reads
-use Rattle.queue.proofs.without.Lts as lts
-use Rattle.words.proofs.singleton.Reads as singleton-reads
-
-singleton-requires : tie.Need-singleton-requires
-singleton-requires c κs = search needs
 
 returns : tie.Need-returns
 returns c = without-here _ _ _ _ (c .singleton .ensures) (search needs)
@@ -16,4 +10,4 @@ returns-2 : tie.Need-returns-2
 returns-2 c = without-other _ _ _ (search needs)
 
 pub without-spec : {M : Type 1} → statement M
-without-spec = tie.close (tie.spec singleton-requires returns returns-2)
+without-spec = tie.close (tie.spec (λ c κs. search needs) returns returns-2)

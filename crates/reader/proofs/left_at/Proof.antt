@@ -5,11 +5,5 @@ use Rattle.reader.proofs.left_at.Tie as tie
 returns : tie.Need-returns
 returns c = search needs
 
-sub-result : tie.Need-sub-result
-sub-result c = search needs
-
-returns-2 : tie.Need-returns-2
-returns-2 c = search needs
-
 pub left-at-spec : {M : Type 1} → statement M
-left-at-spec = tie.close (tie.spec returns sub-result returns-2)
+left-at-spec = tie.close (tie.spec returns (λ c. search needs) (λ c. search needs))

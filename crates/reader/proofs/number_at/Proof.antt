@@ -13,20 +13,11 @@ Inv-loop bytes at n end r₀ i₀ r i = (end ≡ at + n) × (i ≤ n) × (r ≡ 
 abbrev μ-loop : tie.MeasureT-loop
 μ-loop bytes at n end r₀ i₀ r i = n - i
 
-add-end : tie.Need-add-end Inv-loop μ-loop
-add-end c = search needs
-
 loop-holds : tie.Need-loop-holds Inv-loop μ-loop
 loop-holds c = (search needs, search needs, back-start (c .args .at + c .args .n) (c .args .bytes .now))
 
 sub-r : tie.Need-sub-r Inv-loop μ-loop
 sub-r c = search needs
-
-sub-r-2 : tie.Need-sub-r-2 Inv-loop μ-loop
-sub-r-2 c = search needs
-
-shared-slice-read-r : tie.Need-shared-slice-read-r Inv-loop μ-loop
-shared-slice-read-r c = search needs
 
 cast-r : tie.Need-cast-r Inv-loop μ-loop
 cast-r c =
@@ -56,12 +47,6 @@ add-r c =
           (s .before .args .bytes .now) (λ j. c .shared-slice-known .given j .fits) few,
     )
 
-add-i : tie.Need-add-i Inv-loop μ-loop
-add-i c = search needs
-
-loop-less : tie.Need-loop-less Inv-loop μ-loop
-loop-less c = search needs
-
 loop-again : tie.Need-loop-again Inv-loop μ-loop
 loop-again c =
     let s = c .before .before in
@@ -79,17 +64,5 @@ pub number-at-spec : {M : Type 1} → statement M
 number-at-spec =
     tie.close
     (tie.spec
-    Inv-loop
-    μ-loop
-    add-end
-    loop-holds
-    sub-r
-    sub-r-2
-    shared-slice-read-r
-    cast-r
-    mul-r
-    add-r
-    add-i
-    loop-less
-    loop-again
-    returns)
+    Inv-loop μ-loop (λ c. search needs) loop-holds sub-r (λ c. search needs) (λ c. search needs) cast-r mul-r add-r (λ c. search needs) (λ c. search needs)
+    loop-again returns)

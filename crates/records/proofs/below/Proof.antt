@@ -5,8 +5,6 @@ use lib.Dec.{ltb}
 use borrow.Author.Tests.{lt-ltb, le-ltb}
 use Rattle.records.proofs.below.Statement.{statement}
 use Rattle.records.proofs.below.Tie as tie
-use Rattle.records.proofs.below.Reads as reads
-use Rattle.records.proofs.below.Lts as lts
 
 -- where the first two arguments are below their bounds, the third decides
 last-decides : (x a y b z c : ℕ) → x < a → y < b → ltb z c ≡ (ltb x a && ltb y b && ltb z c)

@@ -5,52 +5,6 @@ use Rattle.records.proofs.RecordLaws.{bound, of-kind, no-kind}
 use borrow.Author.Needs.{needs}
 use Rattle.records.proofs.decode.Statement.{statement}
 use Rattle.records.proofs.decode.Tie as tie
-use Rattle.records.proofs.decode.Reads as reads
-use Rattle.records.proofs.decode.Lts as lts
-use Rattle.records.proofs.below.Reads as below-reads
-use Rattle.records.proofs.only_if.Reads as only-if-reads
-
-below-requires : tie.Need-below-requires
-below-requires c κs = search needs
-
-only-if-requires : tie.Need-only-if-requires
-only-if-requires c κs = search needs
-
-below-requires-2 : tie.Need-below-requires-2
-below-requires-2 c κs = search needs
-
-only-if-requires-2 : tie.Need-only-if-requires-2
-only-if-requires-2 c κs = search needs
-
-below-requires-3 : tie.Need-below-requires-3
-below-requires-3 c κs = search needs
-
-only-if-requires-3 : tie.Need-only-if-requires-3
-only-if-requires-3 c κs = search needs
-
-below-requires-4 : tie.Need-below-requires-4
-below-requires-4 c κs = search needs
-
-only-if-requires-4 : tie.Need-only-if-requires-4
-only-if-requires-4 c κs = search needs
-
-below-requires-5 : tie.Need-below-requires-5
-below-requires-5 c κs = search needs
-
-only-if-requires-5 : tie.Need-only-if-requires-5
-only-if-requires-5 c κs = search needs
-
-below-requires-6 : tie.Need-below-requires-6
-below-requires-6 c κs = search needs
-
-only-if-requires-6 : tie.Need-only-if-requires-6
-only-if-requires-6 c κs = search needs
-
-below-requires-7 : tie.Need-below-requires-7
-below-requires-7 c κs = search needs
-
-only-if-requires-7 : tie.Need-only-if-requires-7
-only-if-requires-7 c κs = search needs
 
 returns : tie.Need-returns
 unfolding kindOf kinds bound constraintOf
@@ -88,25 +42,6 @@ pub decode-spec : {M : Type 1} → statement M
 decode-spec =
     tie.close
     (tie.spec
-    below-requires
-    only-if-requires
-    below-requires-2
-    only-if-requires-2
-    below-requires-3
-    only-if-requires-3
-    below-requires-4
-    only-if-requires-4
-    below-requires-5
-    only-if-requires-5
-    below-requires-6
-    only-if-requires-6
-    below-requires-7
-    only-if-requires-7
-    returns
-    returns-2
-    returns-3
-    returns-4
-    returns-5
-    returns-6
-    returns-7
-    returns-8)
+    (λ c κs. search needs) (λ c κs. search needs) (λ c κs. search needs) (λ c κs. search needs) (λ c κs. search needs) (λ c κs. search needs)
+    (λ c κs. search needs) (λ c κs. search needs) (λ c κs. search needs) (λ c κs. search needs) (λ c κs. search needs) (λ c κs. search needs)
+    (λ c κs. search needs) (λ c κs. search needs) returns returns-2 returns-3 returns-4 returns-5 returns-6 returns-7 returns-8)

@@ -2,8 +2,6 @@ use Rattle.model.specs.Lists.{given}
 use Rattle.records.specs.Records.{decodedOf}
 use Rattle.records.proofs.only_if.Statement.{statement}
 use Rattle.records.proofs.only_if.Tie as tie
-use Rattle.records.proofs.only_if.Reads as reads
-use Rattle.records.proofs.only_if.Lts as lts
 
 returns : tie.Need-returns
 unfolding decodedOf given

@@ -14,9 +14,6 @@ use native.Mathlib.Omega.{arith}
 use borrow.Author.Needs.{needs}
 use Rattle.regular.proofs.forward.Statement.{statement}
 use Rattle.regular.proofs.forward.Tie as tie
-use Rattle.regular.proofs.forward.Reads as reads
-use Rattle.regular.proofs.forward.Lts as lts
-use Rattle.regular.proofs.successors.Reads as successors-reads
 
 abbrev Inv-loop : tie.InvT-loop
 Inv-loop d k kinds at tos₀ t x longest sets₀ last₀ i₀ tos sets last i =
@@ -25,9 +22,6 @@ Inv-loop d k kinds at tos₀ t x longest sets₀ last₀ i₀ tos sets last i =
 
 abbrev μ-loop : tie.MeasureT-loop
 μ-loop d k kinds at tos₀ t x longest sets₀ last₀ i₀ tos sets last i = longest - i
-
-element-write-sets : tie.Need-element-write-sets Inv-loop μ-loop
-element-write-sets c = search needs
 
 loop-holds : tie.Need-loop-holds Inv-loop μ-loop
 loop-holds c =
@@ -38,27 +32,6 @@ loop-holds c =
       forwards-none _ _ _ _ (s .pre .0) _ (s .pre .1),
     )
 
-mul-successors : tie.Need-mul-successors Inv-loop μ-loop
-mul-successors c = search needs
-
-element-copy-out-successors : tie.Need-element-copy-out-successors Inv-loop μ-loop
-element-copy-out-successors c = search needs
-
-mul-successors-2 : tie.Need-mul-successors-2 Inv-loop μ-loop
-mul-successors-2 c = search needs
-
-add-successors : tie.Need-add-successors Inv-loop μ-loop
-add-successors c = search needs
-
-add-successors-2 : tie.Need-add-successors-2 Inv-loop μ-loop
-add-successors-2 c = search needs
-
-mul-successors-3 : tie.Need-mul-successors-3 Inv-loop μ-loop
-mul-successors-3 c = search needs
-
-shared-slice-read-successors : tie.Need-shared-slice-read-successors Inv-loop μ-loop
-shared-slice-read-successors c = search needs
-
 successors-requires : tie.Need-successors-requires Inv-loop μ-loop
 successors-requires c κs =
     let l = c .before .before .before .before .loop in
@@ -66,21 +39,6 @@ successors-requires c κs =
     let s = b .before .before .before in
     let words = words-of (s .args .t .now) (λ i. b .shared-slice-known3 .given i .fits) in
     (s .pre .0, place-low _ _ _ _ (s .pre .0 .whole) (s .pre .2) (s .pre .3) words (l .i) (omega arith), l .inv .3)
-
-add-sets : tie.Need-add-sets Inv-loop μ-loop
-add-sets c = search needs
-
-mul-sets : tie.Need-mul-sets Inv-loop μ-loop
-mul-sets c = search needs
-
-element-write-sets-2 : tie.Need-element-write-sets-2 Inv-loop μ-loop
-element-write-sets-2 c = search needs
-
-add-i : tie.Need-add-i Inv-loop μ-loop
-add-i c = search needs
-
-loop-less : tie.Need-loop-less Inv-loop μ-loop
-loop-less c = search needs
 
 loop-again : tie.Need-loop-again Inv-loop μ-loop
 loop-again c =
@@ -102,22 +60,6 @@ pub forward-spec : {M : Type 1} → statement M
 forward-spec =
     tie.close
     (tie.spec
-    Inv-loop
-    μ-loop
-    element-write-sets
-    loop-holds
-    mul-successors
-    element-copy-out-successors
-    mul-successors-2
-    add-successors
-    add-successors-2
-    mul-successors-3
-    shared-slice-read-successors
-    successors-requires
-    add-sets
-    mul-sets
-    element-write-sets-2
-    add-i
-    loop-less
-    loop-again
-    returns)
+    Inv-loop μ-loop (λ c. search needs) loop-holds (λ c. search needs) (λ c. search needs) (λ c. search needs) (λ c. search needs) (λ c. search needs)
+    (λ c. search needs) (λ c. search needs) successors-requires (λ c. search needs) (λ c. search needs) (λ c. search needs) (λ c. search needs)
+    (λ c. search needs) loop-again returns)

@@ -7,10 +7,6 @@ use Rattle.regular.proofs.RegularLaws.{Ending, lengths-skip, lengths-ad
 use borrow.Author.Needs.{needs}
 use Rattle.regular.proofs.lengths.Statement.{statement}
 use Rattle.regular.proofs.lengths.Tie as tie
-use Rattle.regular.proofs.lengths.Reads as reads
-use Rattle.regular.proofs.lengths.Lts as lts
-use Rattle.words.proofs.lowest.Reads as lowest-reads
-use Rattle.words.proofs.singleton.Reads as singleton-reads
 
 abbrev Inv-loop : tie.InvT-loop
 Inv-loop allowed accepting before rest₀ r₀ rest r = Walked 64 allowed (Ending allowed accepting before) rest r
@@ -20,18 +16,6 @@ abbrev μ-loop : tie.MeasureT-loop
 
 loop-holds : tie.Need-loop-holds Inv-loop μ-loop
 loop-holds c = walked-start _ _ _ _ (λ i t x. x .1) (low-all 64 _ (omega arith) (omega arith) (search needs))
-
-lowest-requires : tie.Need-lowest-requires Inv-loop μ-loop
-lowest-requires c κs = search needs
-
-singleton-requires : tie.Need-singleton-requires Inv-loop μ-loop
-singleton-requires c κs = search needs
-
-element-copy-out-if1 : tie.Need-element-copy-out-if1 Inv-loop μ-loop
-element-copy-out-if1 c = search needs
-
-mul-if1 : tie.Need-mul-if1 Inv-loop μ-loop
-mul-if1 c = search needs
 
 sub-rest : tie.Need-sub-rest Inv-loop μ-loop
 sub-rest c = lowest-off _ _ _ (c .before .before .before .lowest .ensures) (c .before .before .singleton .ensures) .0
@@ -57,14 +41,4 @@ pub lengths-spec : {M : Type 1} → statement M
 lengths-spec =
     tie.close
     (tie.spec
-    Inv-loop
-    μ-loop
-    loop-holds
-    lowest-requires
-    singleton-requires
-    mul-if1
-    element-copy-out-if1
-    sub-rest
-    loop-less
-    loop-again
-    returns)
+    Inv-loop μ-loop loop-holds (λ c κs. search needs) (λ c κs. search needs) (λ c. search needs) (λ c. search needs) sub-rest loop-less loop-again returns)

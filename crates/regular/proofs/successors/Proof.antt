@@ -3,27 +3,6 @@ use Rattle.regular.proofs.AskLaws.{turned-targets, forwards-kinds}
 use borrow.Author.Needs.{needs}
 use Rattle.regular.proofs.successors.Statement.{statement}
 use Rattle.regular.proofs.successors.Tie as tie
-use Rattle.regular.proofs.successors.Reads as reads
-use Rattle.regular.proofs.successors.Lts as lts
-use Rattle.automata.proofs.successors.Reads as successors-reads
-use Rattle.automata.proofs.steps_to.Reads as steps-to-reads
-use Rattle.regular.proofs.turn.Reads as turn-reads
-use Rattle.words.proofs.several.Reads as several-reads
-
-returns : tie.Need-returns
-returns c = search needs
-
-several-requires : tie.Need-several-requires
-several-requires c κs = search needs
-
-successors-requires : tie.Need-successors-requires
-successors-requires c κs = search needs
-
-returns-2 : tie.Need-returns-2
-returns-2 c = search needs
-
-turn-requires : tie.Need-turn-requires
-turn-requires c κs = search needs
 
 steps-to-requires : tie.Need-steps-to-requires
 steps-to-requires c κs =
@@ -41,10 +20,4 @@ pub successors-spec : {M : Type 1} → statement M
 successors-spec =
     tie.close
     (tie.spec
-    returns
-    several-requires
-    successors-requires
-    returns-2
-    turn-requires
-    steps-to-requires
-    returns-3)
+    (λ c. search needs) (λ c κs. search needs) (λ c κs. search needs) (λ c. search needs) (λ c κs. search needs) steps-to-requires returns-3)

@@ -8,12 +8,6 @@ use Rattle.regular.proofs.RegularLaws.{Leading, symbols-skip, symbols-a
 use borrow.Author.Needs.{needs}
 use Rattle.regular.proofs.symbols.Statement.{statement}
 use Rattle.regular.proofs.symbols.Tie as tie
-use Rattle.regular.proofs.symbols.Reads as reads
-use Rattle.regular.proofs.symbols.Lts as lts
-use Rattle.automata.proofs.below.Reads as below-reads
-use Rattle.automata.proofs.leads.Reads as leads-reads
-use Rattle.words.proofs.lowest.Reads as lowest-reads
-use Rattle.words.proofs.singleton.Reads as singleton-reads
 
 abbrev Inv-loop : tie.InvT-loop
 Inv-loop d k allowed before after rest₀ r₀ rest r = Walked k allowed (Leading (machine k d) (stateCount d) allowed before after) rest r
@@ -21,17 +15,8 @@ Inv-loop d k allowed before after rest₀ r₀ rest r = Walked k allowed (Leadin
 abbrev μ-loop : tie.MeasureT-loop
 μ-loop d k allowed before after rest₀ r₀ rest r = rest
 
-below-requires : tie.Need-below-requires Inv-loop μ-loop
-below-requires c κs = search needs
-
 loop-holds : tie.Need-loop-holds Inv-loop μ-loop
 loop-holds c = walked-start _ _ _ _ (λ i t x. x .1) (c .below .ensures)
-
-lowest-requires : tie.Need-lowest-requires Inv-loop μ-loop
-lowest-requires c κs = search needs
-
-singleton-requires : tie.Need-singleton-requires Inv-loop μ-loop
-singleton-requires c κs = search needs
 
 leads-requires : tie.Need-leads-requires Inv-loop μ-loop
 leads-requires c κs = (search needs, search needs, walked-next _ _ _ _ _ _ (c .before .before .before .loop .inv) (c .before .lowest .ensures))
@@ -60,14 +45,4 @@ pub symbols-spec : {M : Type 1} → statement M
 symbols-spec =
     tie.close
     (tie.spec
-    Inv-loop
-    μ-loop
-    below-requires
-    loop-holds
-    lowest-requires
-    singleton-requires
-    leads-requires
-    sub-rest
-    loop-less
-    loop-again
-    returns)
+    Inv-loop μ-loop (λ c κs. search needs) loop-holds (λ c κs. search needs) (λ c κs. search needs) leads-requires sub-rest loop-less loop-again returns)

@@ -2,22 +2,12 @@ use Rattle.regular.proofs.AskLaws.{turned-same, turned-other}
 use borrow.Author.Needs.{needs}
 use Rattle.regular.proofs.turn.Statement.{statement}
 use Rattle.regular.proofs.turn.Tie as tie
-use Rattle.regular.proofs.turn.Reads as reads
-use Rattle.regular.proofs.turn.Lts as lts
-use Rattle.automata.proofs.firsts.Reads as firsts-reads
-use Rattle.automata.proofs.forget.Reads as forget-reads
 
 returns : tie.Need-returns
 returns c = turned-same _ _ _ _ _ _ (c .if1 .taken) (c .before .before .pre .2)
-
-forget-requires : tie.Need-forget-requires
-forget-requires c κs = search needs
-
-firsts-requires : tie.Need-firsts-requires
-firsts-requires c κs = search needs
 
 returns-2 : tie.Need-returns-2
 returns-2 c = turned-other _ _ _ _ _ _ _ (c .firsts .ensures) (c .before .forget .ensures)
 
 pub turn-spec : {M : Type 1} → statement M
-turn-spec = tie.close (tie.spec returns forget-requires firsts-requires returns-2)
+turn-spec = tie.close (tie.spec returns (λ c κs. search needs) (λ c κs. search needs) returns-2)

@@ -7,11 +7,6 @@ use Rattle.rev.proofs.TurnLaws.{half-start, rest-less, half-turn}
 use borrow.Author.Needs.{needs}
 use Rattle.rev.proofs.half.Statement.{statement}
 use Rattle.rev.proofs.half.Tie as tie
-use Rattle.rev.proofs.half.Reads as reads
-use Rattle.rev.proofs.half.Lts as lts
-use Rattle.rev.proofs.widen.Reads as widen-reads
-use Rattle.words.proofs.lowest.Reads as lowest-reads
-use Rattle.words.proofs.singleton.Reads as singleton-reads
 
 abbrev Inv-loop : tie.InvT-loop
 Inv-loop t x y ls r₀ rest₀ r rest = Within rest ls × Supports (Mirrored (row t x) (row t y) rest) textBit 64 r
@@ -21,9 +16,6 @@ abbrev μ-loop : tie.MeasureT-loop
 
 loop-holds : tie.Need-loop-holds Inv-loop μ-loop
 loop-holds c = (λ b e. e, half-start _ _ _ _ (c .before .pre .2))
-
-lowest-requires : tie.Need-lowest-requires Inv-loop μ-loop
-lowest-requires c κs = search needs
 
 widen-requires : tie.Need-widen-requires Inv-loop μ-loop
 widen-requires c κs =
@@ -58,13 +50,4 @@ pub half-spec : {M : Type 1} → statement M
 half-spec =
     tie.close
     (tie.spec
-    Inv-loop
-    μ-loop
-    loop-holds
-    lowest-requires
-    widen-requires
-    singleton-requires
-    sub-rest
-    loop-less
-    loop-again
-    returns)
+    Inv-loop μ-loop loop-holds (λ c κs. search needs) widen-requires singleton-requires sub-rest loop-less loop-again returns)

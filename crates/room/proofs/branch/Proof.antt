@@ -8,9 +8,6 @@ use borrow.Author.Needs.{needs}
 use borrow.Author.Count.{below-more}
 use Rattle.room.proofs.branch.Statement.{statement}
 use Rattle.room.proofs.branch.Tie as tie
-use Rattle.room.proofs.branch.Reads as reads
-use Rattle.room.proofs.branch.Lts as lts
-use Rattle.words.proofs.several.Reads as several-reads
 
 abbrev Inv-loop : tie.InvT-loop
 Inv-loop table from n i₀ i = (from ≤ i) × (i ≤ n) × ((j : ℕ) → j < i → from ≤ j → Single (word table j))
@@ -21,15 +18,6 @@ abbrev μ-loop : tie.MeasureT-loop
 loop-holds : tie.Need-loop-holds Inv-loop μ-loop
 loop-holds c = (search needs, search needs, λ j h l. absurd (omega arith))
 
-mul-several : tie.Need-mul-several Inv-loop μ-loop
-mul-several c = search needs
-
-shared-slice-read-several : tie.Need-shared-slice-read-several Inv-loop μ-loop
-shared-slice-read-several c = search needs
-
-several-requires : tie.Need-several-requires Inv-loop μ-loop
-several-requires c κs = search needs
-
 returns : tie.Need-returns Inv-loop μ-loop
 returns c = record {
   least = search needs;
@@ -37,12 +25,6 @@ returns c = record {
   here = λ h. several-true _ (sym (c .before .several .ensures) ∙ c .if1 .taken);
   before = λ j l h. c .before .before .before .before .loop .inv .2 j h l;
 }
-
-add-i : tie.Need-add-i Inv-loop μ-loop
-add-i c = search needs
-
-loop-less : tie.Need-loop-less Inv-loop μ-loop
-loop-less c = search needs
 
 loop-again : tie.Need-loop-again Inv-loop μ-loop
 loop-again c =
@@ -61,14 +43,5 @@ pub branch-spec : {M : Type 1} → statement M
 branch-spec =
     tie.close
     (tie.spec
-    Inv-loop
-    μ-loop
-    loop-holds
-    mul-several
-    shared-slice-read-several
-    several-requires
-    returns
-    add-i
-    loop-less
-    loop-again
+    Inv-loop μ-loop loop-holds (λ c. search needs) (λ c. search needs) (λ c κs. search needs) returns (λ c. search needs) (λ c. search needs) loop-again
     returns-2)

@@ -7,8 +7,6 @@ use Rattle.room.proofs.MoveLaws.{within-start, within-step, within-end}
 use borrow.Author.Needs.{needs}
 use Rattle.room.proofs.copy_within.Statement.{statement}
 use Rattle.room.proofs.copy_within.Tie as tie
-use Rattle.room.proofs.copy_within.Reads as reads
-use Rattle.room.proofs.copy_within.Lts as lts
 
 abbrev Inv-loop : tie.InvT-loop
 Inv-loop room₀ from to n i₀ room i = (i ≤ n) × Copied (take to room₀ ++ take n (drop from room₀)) room₀ (to + i) room
@@ -21,29 +19,11 @@ loop-holds c =
     let a = c .args in
     (search needs, within-start (a .from) (a .to) (a .n) (a .room .now) (search needs) (search needs))
 
-add-room : tie.Need-add-room Inv-loop μ-loop
-add-room c = search needs
-
-mul-room : tie.Need-mul-room Inv-loop μ-loop
-mul-room c = search needs
-
 slice-read-room : tie.Need-slice-read-room Inv-loop μ-loop
 slice-read-room c = omega (arith, c .before .before .loop .inv .1 .size)
 
-add-room-2 : tie.Need-add-room-2 Inv-loop μ-loop
-add-room-2 c = search needs
-
-mul-room-2 : tie.Need-mul-room-2 Inv-loop μ-loop
-mul-room-2 c = search needs
-
 slice-write-room : tie.Need-slice-write-room Inv-loop μ-loop
 slice-write-room c = omega (arith, c .before .before .loop .inv .1 .size)
-
-add-i : tie.Need-add-i Inv-loop μ-loop
-add-i c = search needs
-
-loop-less : tie.Need-loop-less Inv-loop μ-loop
-loop-less c = search needs
 
 loop-again : tie.Need-loop-again Inv-loop μ-loop
 loop-again c =
@@ -61,17 +41,5 @@ pub copy-within-spec : {M : Type 1} → statement M
 copy-within-spec =
     tie.close
     (tie.spec
-    Inv-loop
-    μ-loop
-    loop-holds
-    add-room
-    mul-room
-    slice-read-room
-    add-room-2
-    mul-room-2
-    slice-write-room
-    add-i
-    loop-less
-    loop-again
-    same-length
-    returns)
+    Inv-loop μ-loop loop-holds (λ c. search needs) (λ c. search needs) slice-read-room (λ c. search needs) (λ c. search needs) slice-write-room
+    (λ c. search needs) (λ c. search needs) loop-again same-length returns)

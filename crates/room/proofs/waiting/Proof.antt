@@ -6,8 +6,6 @@ use Rattle.room.proofs.MoveLaws.{nothing-step}
 use borrow.Author.Needs.{needs}
 use Rattle.room.proofs.waiting.Statement.{statement}
 use Rattle.room.proofs.waiting.Tie as tie
-use Rattle.room.proofs.waiting.Reads as reads
-use Rattle.room.proofs.waiting.Lts as lts
 
 abbrev Inv-loop : tie.InvT-loop
 Inv-loop table end at₀ at = (at ≤ end) × ((j : ℕ) → at ≤ j → j < end → word table j ≡ 0)
@@ -18,23 +16,8 @@ abbrev μ-loop : tie.MeasureT-loop
 loop-holds : tie.Need-loop-holds Inv-loop μ-loop
 loop-holds c = (search needs, λ j h l. absurd (omega arith))
 
-sub-if1 : tie.Need-sub-if1 Inv-loop μ-loop
-sub-if1 c = search needs
-
-mul-if1 : tie.Need-mul-if1 Inv-loop μ-loop
-mul-if1 c = search needs
-
-shared-slice-read-if1 : tie.Need-shared-slice-read-if1 Inv-loop μ-loop
-shared-slice-read-if1 c = search needs
-
 returns : tie.Need-returns Inv-loop μ-loop
 returns c = record { most = search needs; here = λ h. omega (arith, c .if1 .taken); after = c .before .before .before .loop .inv .1 }
-
-sub-at : tie.Need-sub-at Inv-loop μ-loop
-sub-at c = search needs
-
-loop-less : tie.Need-loop-less Inv-loop μ-loop
-loop-less c = search needs
 
 loop-again : tie.Need-loop-again Inv-loop μ-loop
 loop-again c =
@@ -49,14 +32,5 @@ pub waiting-spec : {M : Type 1} → statement M
 waiting-spec =
     tie.close
     (tie.spec
-    Inv-loop
-    μ-loop
-    loop-holds
-    sub-if1
-    mul-if1
-    shared-slice-read-if1
-    returns
-    sub-at
-    loop-less
-    loop-again
+    Inv-loop μ-loop loop-holds (λ c. search needs) (λ c. search needs) (λ c. search needs) returns (λ c. search needs) (λ c. search needs) loop-again
     returns-2)

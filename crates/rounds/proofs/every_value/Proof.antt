@@ -7,8 +7,6 @@ use Rattle.rounds.proofs.ValueLaws.{Nonzero, nonzero-start, nonzero-ste
 use borrow.Author.Needs.{needs}
 use Rattle.rounds.proofs.every_value.Statement.{statement}
 use Rattle.rounds.proofs.every_value.Tie as tie
-use Rattle.rounds.proofs.every_value.Reads as reads
-use Rattle.rounds.proofs.every_value.Lts as lts
 
 abbrev Inv-loop : tie.InvT-loop
 Inv-loop table s x₀ x = (x ≤ s) × Nonzero table (λ y. 64 * y) 0 x
@@ -25,15 +23,6 @@ abbrev μ-loop2 : tie.MeasureT-loop2
 loop-holds : tie.Need-loop-holds Inv-loop μ-loop Inv-loop2 μ-loop2
 loop-holds c = (search needs, nonzero-start _ _ _)
 
-mul-if1 : tie.Need-mul-if1 Inv-loop μ-loop Inv-loop2 μ-loop2
-mul-if1 c = search needs
-
-mul-if1-2 : tie.Need-mul-if1-2 Inv-loop μ-loop Inv-loop2 μ-loop2
-mul-if1-2 c = search needs
-
-shared-slice-read-if1 : tie.Need-shared-slice-read-if1 Inv-loop μ-loop Inv-loop2 μ-loop2
-shared-slice-read-if1 c = search needs
-
 returns : tie.Need-returns Inv-loop μ-loop Inv-loop2 μ-loop2
 returns c P wf es ln st =
     let l = c .before .before .before in
@@ -41,29 +30,14 @@ returns c P wf es ln st =
     let bd = words-of (a .table .now) (λ i. c .before .shared-slice-known .given i .fits) in
     no-length (a .table .now) bd (a .s) P wf es ln st (l .loop .x) (omega arith) (c .if1 .taken)
 
-add-x : tie.Need-add-x Inv-loop μ-loop Inv-loop2 μ-loop2
-add-x c = search needs
-
-loop-less : tie.Need-loop-less Inv-loop μ-loop Inv-loop2 μ-loop2
-loop-less c = search needs
-
 loop-again : tie.Need-loop-again Inv-loop μ-loop Inv-loop2 μ-loop2
 loop-again c =
     let l = c .before .before .before in
     let T = l .before .args .table .now in
     (search needs, nonzero-step T _ _ _ (words-of T (λ i. c .before .shared-slice-known .given i .fits)) (c .if1 .left) (l .loop .inv .1))
 
-mul-i : tie.Need-mul-i Inv-loop μ-loop Inv-loop2 μ-loop2
-mul-i c = search needs
-
 loop2-holds : tie.Need-loop2-holds Inv-loop μ-loop Inv-loop2 μ-loop2
 loop2-holds c = (search needs, search needs, nonzero-start _ _ _)
-
-mul-if2 : tie.Need-mul-if2 Inv-loop μ-loop Inv-loop2 μ-loop2
-mul-if2 c = search needs
-
-shared-slice-read-if2 : tie.Need-shared-slice-read-if2 Inv-loop μ-loop Inv-loop2 μ-loop2
-shared-slice-read-if2 c = search needs
 
 returns-2 : tie.Need-returns-2 Inv-loop μ-loop Inv-loop2 μ-loop2
 returns-2 c P wf es ln st =
@@ -71,12 +45,6 @@ returns-2 c P wf es ln st =
     let a = l .before .before .before .args in
     let bd = words-of (a .table .now) (λ i. c .before .shared-slice-known2 .given i .fits) in
     no-number (a .table .now) bd (a .s) P wf es ln st (l .loop2 .i) (omega arith) (omega arith) (c .if2 .taken)
-
-add-i : tie.Need-add-i Inv-loop μ-loop Inv-loop2 μ-loop2
-add-i c = search needs
-
-loop2-less : tie.Need-loop2-less Inv-loop μ-loop Inv-loop2 μ-loop2
-loop2-less c = search needs
 
 loop2-again : tie.Need-loop2-again Inv-loop μ-loop Inv-loop2 μ-loop2
 loop2-again c =
@@ -98,24 +66,6 @@ pub every-value-spec : {M : Type 1} → statement M
 every-value-spec =
     tie.close
     (tie.spec
-    Inv-loop
-    μ-loop
-    Inv-loop2
-    μ-loop2
-    loop-holds
-    mul-if1
-    mul-if1-2
-    shared-slice-read-if1
-    returns
-    add-x
-    loop-less
-    loop-again
-    mul-i
-    loop2-holds
-    mul-if2
-    shared-slice-read-if2
-    returns-2
-    add-i
-    loop2-less
-    loop2-again
+    Inv-loop μ-loop Inv-loop2 μ-loop2 loop-holds (λ c. search needs) (λ c. search needs) (λ c. search needs) returns (λ c. search needs) (λ c. search needs)
+    loop-again (λ c. search needs) loop2-holds (λ c. search needs) (λ c. search needs) returns-2 (λ c. search needs) (λ c. search needs) loop2-again
     returns-3)

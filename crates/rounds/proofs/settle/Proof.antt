@@ -10,34 +10,28 @@ use Rattle.rounds.proofs.RoundWalks.{trims, Begins, begins-first, lent-
 use borrow.Author.Needs.{needs}
 use Rattle.rounds.proofs.settle.Statement.{statement}
 use Rattle.rounds.proofs.settle.Tie as tie
-use Rattle.rounds.proofs.settle.Reads as reads
-use Rattle.rounds.proofs.settle.Lts as lts
-use Rattle.list.proofs.of_file.Reads as of-file-reads
-use Rattle.list.proofs.own_steps.Reads as own-steps-reads
-use Rattle.rounds.proofs.bits.Reads as bits-reads
-use Rattle.steps.proofs.trim_row.Reads as trim-row-reads
 
 abbrev Inv-loop2 : tie.InvT-loop2
-Inv-loop2 file p table₀ constraints n before x₀ x-end table x = (x ≤ x-end) × Walked (problemIn file p) (trims (problemIn file p)) table₀ x table
+Inv-loop2 file p table₀ constraints kinds n before x₀ x-end table x = (x ≤ x-end) × Walked (problemIn file p) (trims (problemIn file p)) table₀ x table
 
 abbrev μ-loop2 : tie.MeasureT-loop2
-μ-loop2 file p table₀ constraints n before x₀ x-end table x = x-end - x
+μ-loop2 file p table₀ constraints kinds n before x₀ x-end table x = x-end - x
 
 abbrev Inv-loop : tie.InvT-loop
-Inv-loop file p table₀ constraints n₀ before₀ table n before = Begins (problemIn file p) table₀ table n × (before ≡ size table)
+Inv-loop file p table₀ constraints kinds n₀ before₀ table n before = Begins (problemIn file p) table₀ table n × (before ≡ size table)
 
 -- every round but the last strikes a bit
 abbrev μ-loop : tie.MeasureT-loop
-μ-loop file p table₀ constraints n₀ before₀ table n before = size table
+μ-loop file p table₀ constraints kinds n₀ before₀ table n before = size table
 
 of-file-requires : tie.Need-of-file-requires Inv-loop2 μ-loop2 Inv-loop μ-loop
 of-file-requires c κs = c .before .before .pre .0
 
 bits-requires : tie.Need-bits-requires Inv-loop2 μ-loop2 Inv-loop μ-loop
-bits-requires c κs = let s = c .before .before .before .before in lent-short (usable-counts _ _ (s .pre .0)) _ (s .pre .1)
+bits-requires c κs = let s = c .before .before .before .before .before .before .before in lent-short (usable-counts _ _ (s .pre .0)) _ (s .pre .1)
 
 loop-holds : tie.Need-loop-holds Inv-loop2 μ-loop2 Inv-loop μ-loop
-loop-holds c = (begins-first _ _ (c .before .before .before .before .before .pre .1), c .bits .ensures)
+loop-holds c = (begins-first _ _ (c .before .before .before .before .before .before .before .before .pre .1), c .bits .ensures)
 
 -- ---- the walk over the strings
 
@@ -48,52 +42,46 @@ trim-row-requires : tie.Need-trim-row-requires Inv-loop2 μ-loop2 Inv-loop μ-lo
 trim-row-requires c κs =
     let l = c .before .before in
     let r = l .before in
-    trim-room (usable-counts _ _ (r .before .before .before .before .before .before .pre .0)) (r .loop .inv .0) (l .loop2 .inv .1) (search needs)
-
-add-x : tie.Need-add-x Inv-loop2 μ-loop2 Inv-loop μ-loop
-add-x c = search needs
-
-loop2-less : tie.Need-loop2-less Inv-loop2 μ-loop2 Inv-loop μ-loop
-loop2-less c = search needs
+    trim-room (usable-counts _ _ (r .before .before .before .before .before .before .before .before .before .pre .0)) (r .loop .inv .0) (l .loop2 .inv .1) (search needs)
 
 loop2-again : tie.Need-loop2-again Inv-loop2 μ-loop2 Inv-loop μ-loop
 loop2-again c =
     let l = c .before .before .before .before .before in
     let r = l .before in
-    let h = usable-counts _ _ (r .before .before .before .before .before .before .pre .0) in
+    let h = usable-counts _ _ (r .before .before .before .before .before .before .before .before .before .pre .0) in
     (search needs, trim-next h (r .loop .inv .0) (l .loop2 .inv .1) (search needs) (c .before .before .trim-row .ensures))
 
 -- ---- the walk over the constraints
 
 own-steps-requires : tie.Need-own-steps-requires Inv-loop2 μ-loop2 Inv-loop μ-loop
 own-steps-requires c κs =
-    let l = c .before .before in
+    let l = c .before .before .before in
     let r = l .before in
-    let u = r .before .before .before .before .before .before .pre .0 in
-    (u, trim-lent (usable-counts _ _ u) (r .loop .inv .0) (l .loop2 .inv .1), r .before .before .before .of-file .ensures)
+    let u = r .before .before .before .before .before .before .before .before .before .pre .0 in
+    (u, trim-lent (usable-counts _ _ u) (r .loop .inv .0) (l .loop2 .inv .1), r .before .before .before .before .kinds2 .ensures, r .before .before .before .before .before .before .of-file .ensures)
 
 bits-requires-2 : tie.Need-bits-requires-2 Inv-loop2 μ-loop2 Inv-loop μ-loop
 bits-requires-2 c κs =
     let a = c .before .before .before in
-    let l = a .before .before .before in
+    let l = a .before .before .before .before in
     let r = l .before in
-    let h = usable-counts _ _ (r .before .before .before .before .before .before .pre .0) in
+    let h = usable-counts _ _ (r .before .before .before .before .before .before .before .before .before .pre .0) in
     lent-short h _ (round-lent h (r .loop .inv .0) (l .loop2 .inv .1) (a .own-steps .ensures))
 
 -- ---- round after round
 
 add-n : tie.Need-add-n Inv-loop2 μ-loop2 Inv-loop μ-loop
 add-n c =
-    let r = c .before .before .before .before .before .before .before .before .before in
-    omega (arith, usable-counts _ _ (r .before .before .before .before .before .before .pre .0) .most-words, r .loop .inv .0 .few)
+    let r = c .before .before .before .before .before .before .before .before .before .before in
+    omega (arith, usable-counts _ _ (r .before .before .before .before .before .before .before .before .before .pre .0) .most-words, r .loop .inv .0 .few)
 
 loop-less : tie.Need-loop-less Inv-loop2 μ-loop2 Inv-loop μ-loop
 loop-less c =
     let b = c .before in
     let a = b .before .before .before .before in
-    let l = a .before .before .before in
+    let l = a .before .before .before .before in
     let r = l .before in
-    let h = usable-counts _ _ (r .before .before .before .before .before .before .pre .0) in
+    let h = usable-counts _ _ (r .before .before .before .before .before .before .before .before .before .pre .0) in
     let after = b .bits2 .ensures in
     let before = r .loop .inv .1 in
     round-less h (r .loop .inv .0) (l .loop2 .inv .1) (a .own-steps .ensures) (omega arith) (λ e. c .if1 .left (omega arith))
@@ -102,9 +90,9 @@ loop-again : tie.Need-loop-again Inv-loop2 μ-loop2 Inv-loop μ-loop
 loop-again c =
     let b = c .before in
     let a = b .before .before .before .before in
-    let l = a .before .before .before in
+    let l = a .before .before .before .before in
     let r = l .before in
-    let h = usable-counts _ _ (r .before .before .before .before .before .before .pre .0) in
+    let h = usable-counts _ _ (r .before .before .before .before .before .before .before .before .before .pre .0) in
     let after = b .bits2 .ensures in
     let before = r .loop .inv .1 in
     (round-next h (r .loop .inv .0) (l .loop2 .inv .1) (a .own-steps .ensures) (omega arith) (λ e. c .if1 .left (omega arith)), after)
@@ -112,9 +100,9 @@ loop-again c =
 same-length : tie.Need-same-length Inv-loop2 μ-loop2 Inv-loop μ-loop
 same-length c =
     let a = c .before .before .before .before .before in
-    let l = a .before .before .before in
+    let l = a .before .before .before .before in
     let r = l .before in
-    let s = r .before .before .before .before .before .before in
+    let s = r .before .before .before .before .before .before .before .before .before in
     let lent = round-lent (usable-counts _ _ (s .pre .0)) (r .loop .inv .0) (l .loop2 .inv .1) (a .own-steps .ensures) in
     omega (arith, lendable-length _ _ lent, lendable-length _ _ (s .pre .1))
 
@@ -122,9 +110,9 @@ returns : tie.Need-returns Inv-loop2 μ-loop2 Inv-loop μ-loop
 returns c =
     let b = c .before in
     let a = b .before .before .before .before in
-    let l = a .before .before .before in
+    let l = a .before .before .before .before in
     let r = l .before in
-    let h = usable-counts _ _ (r .before .before .before .before .before .before .pre .0) in
+    let h = usable-counts _ _ (r .before .before .before .before .before .before .before .before .before .pre .0) in
     let after = b .bits2 .ensures in
     let before = r .loop .inv .1 in
     let same = c .if1 .taken in
@@ -134,22 +122,6 @@ pub settle-spec : {M : Type 1} → statement M
 settle-spec =
     tie.close
     (tie.spec
-    Inv-loop2
-    μ-loop2
-    Inv-loop
-    μ-loop
-    of-file-requires
-    bits-requires
-    loop-holds
-    loop2-holds
-    trim-row-requires
-    add-x
-    loop2-less
-    loop2-again
-    own-steps-requires
-    bits-requires-2
-    add-n
-    loop-less
-    loop-again
-    same-length
+    Inv-loop2 μ-loop2 Inv-loop μ-loop of-file-requires (λ c. search needs) (λ c κs. search needs) bits-requires loop-holds loop2-holds trim-row-requires
+    (λ c. search needs) (λ c. search needs) loop2-again (λ c. search needs) own-steps-requires bits-requires-2 add-n loop-less loop-again same-length
     returns)

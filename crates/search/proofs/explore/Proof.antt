@@ -7,10 +7,6 @@ use Prim.Native.Nat.{_-_}
 use mathlib.Core.Path.{_≡_, refl, sym, ap, _∙_}
 use Rattle.search.proofs.explore.Statement.{statement}
 use Rattle.search.proofs.explore.Tie as tie
-use Rattle.search.proofs.explore.Reads as reads
-use Rattle.search.proofs.explore.Lts as lts
-use Rattle.room.proofs.copy.Reads as copy-reads
-use Rattle.search.proofs.visit.Reads as visit-reads
 
 abbrev Inv-loop : tie.InvT-loop
 Inv-loop file p ix kinds budget room₀ answer₀ m count₀ path₀ room answer count path =
@@ -141,27 +137,5 @@ pub explore-spec : {M : Type 1} → statement M
 explore-spec =
     tie.close
     (tie.spec
-    Inv-loop
-    μ-loop
-    mul-m
-    add-m
-    loop-holds
-    add-count
-    visit-requires
-    enum-told
-    slice-reshare-prefix-copy
-    slice-aggregate-copy
-    copy-requires
-    same-length
-    same-length-2
-    returns
-    enum-told-2
-    same-length-3
-    same-length-4
-    returns-2
-    enum-known-next
-    loop-less
-    loop-again
-    same-length-5
-    same-length-6
-    returns-3)
+    Inv-loop μ-loop mul-m add-m loop-holds add-count visit-requires enum-told slice-reshare-prefix-copy slice-aggregate-copy copy-requires same-length
+    same-length-2 returns enum-told-2 same-length-3 same-length-4 returns-2 enum-known-next loop-less loop-again same-length-5 same-length-6 returns-3)

@@ -2,11 +2,6 @@ use Rattle.search.proofs.VisitLaws.{over-here, back-there, sibling-next
 use borrow.Author.Needs.{needs}
 use Rattle.search.proofs.go_back.Statement.{statement}
 use Rattle.search.proofs.go_back.Tie as tie
-use Rattle.search.proofs.go_back.Reads as reads
-use Rattle.search.proofs.go_back.Lts as lts
-use Rattle.room.proofs.restart.Reads as restart-reads
-use Rattle.room.proofs.sibling.Reads as sibling-reads
-use Rattle.room.proofs.waiting.Reads as waiting-reads
 
 -- src/lib.rt:65:35
 mul-waiting : tie.Need-mul-waiting
@@ -96,19 +91,5 @@ pub go-back-spec : {M : Type 1} → statement M
 go-back-spec =
     tie.close
     (tie.spec
-    mul-waiting
-    mul-waiting-2
-    mul-waiting-3
-    sub-waiting
-    part-waiting-start
-    part-waiting-end
-    waiting-requires
-    same-length
-    returns
-    sub-at
-    sibling-requires
-    same-length-2
-    returns-2
-    restart-requires
-    same-length-3
-    returns-3)
+    mul-waiting mul-waiting-2 mul-waiting-3 sub-waiting part-waiting-start part-waiting-end waiting-requires same-length returns sub-at sibling-requires
+    same-length-2 returns-2 restart-requires same-length-3 returns-3)

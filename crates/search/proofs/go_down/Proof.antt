@@ -5,10 +5,6 @@ use mathlib.Core.Path.{sym}
 use borrow.Author.Needs.{needs}
 use Rattle.search.proofs.go_down.Statement.{statement}
 use Rattle.search.proofs.go_down.Tie as tie
-use Rattle.search.proofs.go_down.Reads as reads
-use Rattle.search.proofs.go_down.Lts as lts
-use Rattle.room.proofs.branch.Reads as branch-reads
-use Rattle.room.proofs.down.Reads as down-reads
 
 -- src/lib.rt:47:27
 slice-reshare-prefix-branch : tie.Need-slice-reshare-prefix-branch
@@ -59,12 +55,4 @@ pub go-down-spec : {M : Type 1} → statement M
 go-down-spec =
     tie.close
     (tie.spec
-    slice-reshare-prefix-branch
-    slice-aggregate-branch
-    branch-requires
-    same-length
-    returns
-    down-requires
-    add-t11
-    same-length-2
-    returns-2)
+    slice-reshare-prefix-branch slice-aggregate-branch branch-requires same-length returns down-requires add-t11 same-length-2 returns-2)

@@ -7,22 +7,6 @@ use mathlib.Core.Path.{sym}
 use borrow.Author.Needs.{needs}
 use Rattle.search.proofs.search.Statement.{statement}
 use Rattle.search.proofs.search.Tie as tie
-use Rattle.search.proofs.search.Reads as reads
-use Rattle.search.proofs.search.Lts as lts
-use Rattle.index.proofs.of_file.Reads as of-file-reads
-use Rattle.room.proofs.clear.Reads as clear-reads
-use Rattle.room.proofs.start.Reads as start-reads
-use Rattle.search.proofs.explore.Reads as explore-reads
-use Rattle.steps.proofs.kinds.Reads as kinds-reads
-
-mul-m : tie.Need-mul-m
-mul-m c = search needs
-
-add-m : tie.Need-add-m
-add-m c = search needs
-
-mul-all : tie.Need-mul-all
-mul-all c = search needs
 
 slice-aggregate-start : tie.Need-slice-aggregate-start
 slice-aggregate-start c = usable-end _ _ (c .before .before .before .before .before .before .pre .0)
@@ -31,21 +15,6 @@ start-requires : tie.Need-start-requires
 start-requires c κs =
     let s = c .before .before .before .before .before .before .before in
     (usable-bytes _ _ (s .pre .0), s .pre .1)
-
-of-file-requires : tie.Need-of-file-requires
-of-file-requires c κs = search needs
-
-slice-aggregate-kinds : tie.Need-slice-aggregate-kinds
-slice-aggregate-kinds c = search needs
-
-kinds-requires : tie.Need-kinds-requires
-kinds-requires c κs = search needs
-
-slice-aggregate-explore : tie.Need-slice-aggregate-explore
-slice-aggregate-explore c = search needs
-
-slice-aggregate-explore-2 : tie.Need-slice-aggregate-explore-2
-slice-aggregate-explore-2 c = search needs
 
 explore-requires : tie.Need-explore-requires
 explore-requires c κs =
@@ -58,20 +27,8 @@ explore-requires c κs =
     let long = lendable-length _ _ (usable-sound _ _ (s .pre .0) bytes .own-table) in
     (s .pre .0, search needs, search needs, search needs, f .of-file .ensures, search-standing _ _ (s .pre .0) _ _ (t .start .ensures) long, n .kinds2 .ensures)
 
-slice-relend-prefix-clear : tie.Need-slice-relend-prefix-clear
-slice-relend-prefix-clear c = search needs
-
 slice-aggregate-clear : tie.Need-slice-aggregate-clear
 slice-aggregate-clear c = sym (length-take-le _ _ (search needs))
-
-clear-requires : tie.Need-clear-requires
-clear-requires c κs = search needs
-
-same-length : tie.Need-same-length
-same-length c = search needs
-
-same-length-2 : tie.Need-same-length-2
-same-length-2 c = search needs
 
 returns : tie.Need-returns
 returns c =
@@ -85,20 +42,6 @@ pub search-spec : {M : Type 1} → statement M
 search-spec =
     tie.close
     (tie.spec
-    mul-m
-    add-m
-    mul-all
-    slice-aggregate-start
-    start-requires
-    of-file-requires
-    slice-aggregate-kinds
-    kinds-requires
-    slice-aggregate-explore
-    slice-aggregate-explore-2
-    explore-requires
-    slice-relend-prefix-clear
-    slice-aggregate-clear
-    clear-requires
-    same-length
-    same-length-2
-    returns)
+    (λ c. search needs) (λ c. search needs) (λ c. search needs) slice-aggregate-start start-requires (λ c κs. search needs) (λ c. search needs)
+    (λ c κs. search needs) (λ c. search needs) (λ c. search needs) explore-requires (λ c. search needs) slice-aggregate-clear (λ c κs. search needs)
+    (λ c. search needs) (λ c. search needs) returns)

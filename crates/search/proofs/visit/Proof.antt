@@ -6,11 +6,6 @@ use native.Mathlib.Omega.{arith}
 use borrow.Author.Needs.{needs}
 use Rattle.search.proofs.visit.Statement.{statement}
 use Rattle.search.proofs.visit.Tie as tie
-use Rattle.search.proofs.visit.Reads as reads
-use Rattle.search.proofs.visit.Lts as lts
-use Rattle.search.proofs.go_back.Reads as go-back-reads
-use Rattle.search.proofs.go_down.Reads as go-down-reads
-use Rattle.waiting.proofs.settle.Reads as settle-reads
 
 -- what holds at the start
 begun : (c : tie.After-shared-slice-known) → Visiting (c .before .args .file .now) (c .before .args .p) (c .before .args .path) (c .before .args .room .now)
@@ -83,15 +78,5 @@ pub visit-spec : {M : Type 1} → statement M
 visit-spec =
     tie.close
     (tie.spec
-    mul-m
-    add-m
-    slice-relend-prefix-settle
-    slice-aggregate-settle
-    settle-requires
-    go-down-requires
-    same-length
-    returns
-    slice-aggregate-go-back
-    go-back-requires
-    same-length-2
-    returns-2)
+    mul-m add-m slice-relend-prefix-settle slice-aggregate-settle settle-requires go-down-requires same-length returns slice-aggregate-go-back
+    go-back-requires same-length-2 returns-2)

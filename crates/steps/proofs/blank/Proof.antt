@@ -4,21 +4,6 @@ use lib.ListN.{length-set}
 use borrow.Author.Needs.{needs}
 use Rattle.steps.proofs.blank.Statement.{statement}
 use Rattle.steps.proofs.blank.Tie as tie
-use Rattle.steps.proofs.blank.Reads as reads
-use Rattle.steps.proofs.blank.Lts as lts
-use Rattle.inplace.proofs.clear.Reads as clear-reads
-
-mul-table : tie.Need-mul-table
-mul-table c = search needs
-
-mul-table-2 : tie.Need-mul-table-2
-mul-table-2 c = search needs
-
-slice-write-table : tie.Need-slice-write-table
-slice-write-table c = search needs
-
-mul-clear : tie.Need-mul-clear
-mul-clear c = search needs
 
 clear-requires : tie.Need-clear-requires
 clear-requires c κs = (omega arith, simp length-set (omega arith))
@@ -34,4 +19,4 @@ returns c =
 pub blank-spec : {M : Type 1} → statement M
 blank-spec =
     tie.close
-    (tie.spec mul-table mul-table-2 slice-write-table mul-clear clear-requires same-length returns)
+    (tie.spec (λ c. search needs) (λ c. search needs) (λ c. search needs) (λ c. search needs) clear-requires same-length returns)

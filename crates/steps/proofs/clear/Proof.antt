@@ -10,9 +10,6 @@ use Rattle.steps.proofs.BlankLaws.{blanked-none, blanked-turn, blanked-
 use borrow.Author.Needs.{needs}
 use Rattle.steps.proofs.clear.Statement.{statement}
 use Rattle.steps.proofs.clear.Tie as tie
-use Rattle.steps.proofs.clear.Reads as reads
-use Rattle.steps.proofs.clear.Lts as lts
-use Rattle.steps.proofs.blank.Reads as blank-reads
 
 abbrev Inv-loop : tie.InvT-loop
 Inv-loop table₀ m strings j₀ j-end table j = (j ≤ j-end) × (length table ≡ length table₀) × Blanked (take j strings) [] table₀ table
@@ -23,12 +20,6 @@ abbrev μ-loop : tie.MeasureT-loop
 loop-holds : tie.Need-loop-holds Inv-loop μ-loop
 loop-holds c = (search needs, refl, blanked-none _)
 
-mul-blank : tie.Need-mul-blank Inv-loop μ-loop
-mul-blank c = search needs
-
-array-read-blank : tie.Need-array-read-blank Inv-loop μ-loop
-array-read-blank c = search needs
-
 blank-requires : tie.Need-blank-requires Inv-loop μ-loop
 blank-requires c κs =
     let l = c .before .before in
@@ -37,12 +28,6 @@ blank-requires c κs =
     let s = l .before .before .before in
     let k = next-inside (s .args .m) _ (s .pre) (search needs) _ (c .before .loop-test .taken) in
     omega arith
-
-add-j : tie.Need-add-j Inv-loop μ-loop
-add-j c = search needs
-
-loop-less : tie.Need-loop-less Inv-loop μ-loop
-loop-less c = search needs
 
 loop-again : tie.Need-loop-again Inv-loop μ-loop
 loop-again c =
@@ -67,17 +52,11 @@ slice-write-table c =
     let z = l .loop .inv .1 in
     search needs
 
-same-length : tie.Need-same-length Inv-loop μ-loop
-same-length c = search needs
-
 returns : tie.Need-returns Inv-loop μ-loop
 returns c =
     let l = c .before .before in
     let s = l .before .before .before in
     blanked-last (s .args .m) _ (s .pre) (search needs) (l .loop .j) (omega arith) (l .loop .inv .2) (c .if1 .taken)
-
-same-length-2 : tie.Need-same-length-2 Inv-loop μ-loop
-same-length-2 c = search needs
 
 returns-2 : tie.Need-returns-2 Inv-loop μ-loop
 returns-2 c =
@@ -89,18 +68,5 @@ pub clear-spec : {M : Type 1} → statement M
 clear-spec =
     tie.close
     (tie.spec
-    Inv-loop
-    μ-loop
-    loop-holds
-    mul-blank
-    array-read-blank
-    blank-requires
-    add-j
-    loop-less
-    loop-again
-    mul-table
-    slice-write-table
-    same-length
-    returns
-    same-length-2
-    returns-2)
+    Inv-loop μ-loop loop-holds (λ c. search needs) (λ c. search needs) blank-requires (λ c. search needs) (λ c. search needs) loop-again mul-table
+    slice-write-table (λ c. search needs) returns (λ c. search needs) returns-2)

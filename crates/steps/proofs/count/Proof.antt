@@ -6,10 +6,6 @@ use Rattle.steps.proofs.SizeLaws.{Summed, sum-start, sum-next, sum-smal
 use borrow.Author.Needs.{needs}
 use Rattle.steps.proofs.count.Statement.{statement}
 use Rattle.steps.proofs.count.Tie as tie
-use Rattle.steps.proofs.count.Reads as reads
-use Rattle.steps.proofs.count.Lts as lts
-use Rattle.steps.proofs.bits.Reads as bits-reads
-use Rattle.words.proofs.count.Reads as count-reads
 
 abbrev Inv-loop : tie.InvT-loop
 Inv-loop table m strings n₀ j₀ j-end n j = (j ≤ j-end) × Summed m table j n
@@ -19,12 +15,6 @@ abbrev μ-loop : tie.MeasureT-loop
 
 loop-holds : tie.Need-loop-holds Inv-loop μ-loop
 loop-holds c = (search needs, sum-start _ _)
-
-mul-bits : tie.Need-mul-bits Inv-loop μ-loop
-mul-bits c = search needs
-
-array-read-bits : tie.Need-array-read-bits Inv-loop μ-loop
-array-read-bits c = search needs
 
 bits-requires : tie.Need-bits-requires Inv-loop μ-loop
 bits-requires c κs =
@@ -39,12 +29,6 @@ add-n c =
     let t = sum-next (s .args .m) _ (s .pre) (search needs) _ _ _ (g .loop-test .taken) (c .bits .ensures) (g .before .loop .inv .1) .small in
     let k = g .loop-test .taken in
     omega arith
-
-add-j : tie.Need-add-j Inv-loop μ-loop
-add-j c = search needs
-
-loop-less : tie.Need-loop-less Inv-loop μ-loop
-loop-less c = search needs
 
 loop-again : tie.Need-loop-again Inv-loop μ-loop
 loop-again c =
@@ -66,9 +50,6 @@ shared-slice-read-count c =
     let s = l .before .before .before in
     let h = number-inside (s .args .m) _ (s .pre) (g .if1 .taken) in
     search needs
-
-count-requires : tie.Need-count-requires Inv-loop μ-loop
-count-requires c κs = search needs
 
 add-n-2 : tie.Need-add-n-2 Inv-loop μ-loop
 add-n-2 c =
@@ -96,19 +77,5 @@ pub count-spec : {M : Type 1} → statement M
 count-spec =
     tie.close
     (tie.spec
-    Inv-loop
-    μ-loop
-    loop-holds
-    mul-bits
-    array-read-bits
-    bits-requires
-    add-n
-    add-j
-    loop-less
-    loop-again
-    mul-count
-    shared-slice-read-count
-    count-requires
-    add-n-2
-    returns
-    returns-2)
+    Inv-loop μ-loop loop-holds (λ c. search needs) (λ c. search needs) bits-requires add-n (λ c. search needs) (λ c. search needs) loop-again mul-count
+    shared-slice-read-count (λ c κs. search needs) add-n-2 returns returns-2)

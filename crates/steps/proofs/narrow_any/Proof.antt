@@ -4,19 +4,12 @@ use Rattle.steps.proofs.StepLaws.{step-inside, any-none, narrow-asks, a
 use borrow.Author.Needs.{needs}
 use Rattle.steps.proofs.narrow_any.Statement.{statement}
 use Rattle.steps.proofs.narrow_any.Tie as tie
-use Rattle.steps.proofs.narrow_any.Reads as reads
-use Rattle.steps.proofs.narrow_any.Lts as lts
-use Rattle.steps.proofs.narrow.Reads as narrow-reads
-use Rattle.steps.proofs.tidy.Reads as tidy-reads
 
 tidy-requires : tie.Need-tidy-requires
 tidy-requires c κs =
     let k = c .before in
     let s = k .before .before .before in
     step-inside _ _ _ _ (λ i. k .before .before .shared-slice-known .given i .fits) (words-of (s .args .table .now) (λ i. k .slice-known .given i .fits)) (s .pre .0, s .pre .1, s .pre .3) _ (s .pre .4)
-
-same-length : tie.Need-same-length
-same-length c = search needs
 
 returns : tie.Need-returns
 returns c =
@@ -33,9 +26,6 @@ narrow-requires c κs =
     let s = k .before .before .before in
     narrow-asks _ _ _ _ (λ i. k .before .before .shared-slice-known .given i .fits) (words-of (s .args .table .now) (λ i. k .slice-known .given i .fits)) (s .pre .0, s .pre .1, s .pre .3) _ (s .pre .4) _ _ (t .tidy .ensures) (s .pre .2) (not-false _ (e .if1 .left))
 
-same-length-2 : tie.Need-same-length-2
-same-length-2 c = search needs
-
 returns-2 : tie.Need-returns-2
 returns-2 c =
     let n = c .before .before in
@@ -47,4 +37,4 @@ returns-2 c =
 
 pub narrow-any-spec : {M : Type 1} → statement M
 narrow-any-spec =
-    tie.close (tie.spec tidy-requires same-length returns narrow-requires same-length-2 returns-2)
+    tie.close (tie.spec tidy-requires (λ c. search needs) returns narrow-requires (λ c. search needs) returns-2)

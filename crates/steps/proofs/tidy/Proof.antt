@@ -9,9 +9,6 @@ use Rattle.steps.proofs.TidyLaws.{tidies-none, next-inside, tidies-turn
 use borrow.Author.Needs.{needs}
 use Rattle.steps.proofs.tidy.Statement.{statement}
 use Rattle.steps.proofs.tidy.Tie as tie
-use Rattle.steps.proofs.tidy.Reads as reads
-use Rattle.steps.proofs.tidy.Lts as lts
-use Rattle.inplace.proofs.tidy.Reads as tidy-reads
 
 abbrev Inv-loop : tie.InvT-loop
 Inv-loop table₀ strings j₀ j-end table j = (j ≤ j-end) × (length table ≡ length table₀) × Tidies (take j strings) table₀ table true
@@ -22,12 +19,6 @@ abbrev μ-loop : tie.MeasureT-loop
 loop-holds : tie.Need-loop-holds Inv-loop μ-loop
 loop-holds c = (search needs, refl, tidies-none _)
 
-mul-tidy : tie.Need-mul-tidy Inv-loop μ-loop
-mul-tidy c = search needs
-
-array-read-tidy : tie.Need-array-read-tidy Inv-loop μ-loop
-array-read-tidy c = search needs
-
 tidy-requires : tie.Need-tidy-requires Inv-loop μ-loop
 tidy-requires c κs =
     let l = c .before .before in
@@ -37,9 +28,6 @@ tidy-requires c κs =
     let k = next-inside (s .args .m) _ (s .pre) (search needs) _ (c .before .loop-test .taken) in
     omega arith
 
-same-length : tie.Need-same-length Inv-loop μ-loop
-same-length c = search needs
-
 returns : tie.Need-returns Inv-loop μ-loop
 returns c =
     let t = c .before .before .before in
@@ -47,21 +35,12 @@ returns c =
     let s = g .before .before .before .before in
     tidies-stop (s .args .m) _ (s .pre) (search needs) _ (g .loop-test .taken) (g .before .loop .inv .2) (t .tidy .ensures) (not-true _ (c .if1 .taken))
 
-add-j : tie.Need-add-j Inv-loop μ-loop
-add-j c = search needs
-
-loop-less : tie.Need-loop-less Inv-loop μ-loop
-loop-less c = search needs
-
 loop-again : tie.Need-loop-again Inv-loop μ-loop
 loop-again c =
     let t = c .before .before .before in
     let g = t .before .before in
     let s = g .before .before .before .before in
     (search needs, search needs, tidies-turn (s .args .m) _ (s .pre) (search needs) _ (g .loop-test .taken) (g .before .loop .inv .2) (t .tidy .ensures) (not-false _ (c .if1 .left)))
-
-same-length-2 : tie.Need-same-length-2 Inv-loop μ-loop
-same-length-2 c = search needs
 
 returns-2 : tie.Need-returns-2 Inv-loop μ-loop
 returns-2 c =
@@ -72,16 +51,5 @@ pub tidy-spec : {M : Type 1} → statement M
 tidy-spec =
     tie.close
     (tie.spec
-    Inv-loop
-    μ-loop
-    loop-holds
-    mul-tidy
-    array-read-tidy
-    tidy-requires
-    same-length
-    returns
-    add-j
-    loop-less
-    loop-again
-    same-length-2
-    returns-2)
+    Inv-loop μ-loop loop-holds (λ c. search needs) (λ c. search needs) tidy-requires (λ c. search needs) returns (λ c. search needs) (λ c. search needs)
+    loop-again (λ c. search needs) returns-2)

@@ -8,8 +8,6 @@ use Rattle.striking.proofs.HoldingLaws.{lengths-none, lengths-turn, len
 use borrow.Author.Needs.{needs}
 use Rattle.striking.proofs.have_lengths.Statement.{statement}
 use Rattle.striking.proofs.have_lengths.Tie as tie
-use Rattle.striking.proofs.have_lengths.Reads as reads
-use Rattle.striking.proofs.have_lengths.Lts as lts
 
 abbrev Inv-loop : tie.InvT-loop
 Inv-loop table strings j₀ j-end j = (j ≤ j-end) × Lengths (take j strings) table true
@@ -19,12 +17,6 @@ abbrev μ-loop : tie.MeasureT-loop
 
 loop-holds : tie.Need-loop-holds Inv-loop μ-loop
 loop-holds c = (search needs, lengths-none _)
-
-mul-if1 : tie.Need-mul-if1 Inv-loop μ-loop
-mul-if1 c = search needs
-
-array-read-if1 : tie.Need-array-read-if1 Inv-loop μ-loop
-array-read-if1 c = search needs
 
 mul-if1-2 : tie.Need-mul-if1-2 Inv-loop μ-loop
 mul-if1-2 c =
@@ -51,12 +43,6 @@ returns c =
     let s = t .before .before .before in
     lengths-stop (s .args .m) _ (s .pre) (search needs) _ (t .loop-test .taken) (c .if1 .taken)
 
-add-j : tie.Need-add-j Inv-loop μ-loop
-add-j c = search needs
-
-loop-less : tie.Need-loop-less Inv-loop μ-loop
-loop-less c = search needs
-
 loop-again : tie.Need-loop-again Inv-loop μ-loop
 loop-again c =
     let t = c .before .before in
@@ -73,16 +59,5 @@ pub have-lengths-spec : {M : Type 1} → statement M
 have-lengths-spec =
     tie.close
     (tie.spec
-    Inv-loop
-    μ-loop
-    loop-holds
-    mul-if1
-    array-read-if1
-    mul-if1-2
-    mul-if1-3
-    shared-slice-read-if1
-    returns
-    add-j
-    loop-less
-    loop-again
-    returns-2)
+    Inv-loop μ-loop loop-holds (λ c. search needs) (λ c. search needs) mul-if1-2 mul-if1-3 shared-slice-read-if1 returns (λ c. search needs)
+    (λ c. search needs) loop-again returns-2)

@@ -9,9 +9,6 @@ use Rattle.striking.proofs.HoldingLaws.{holds-none, holds-turn, holds-l
 use borrow.Author.Needs.{needs}
 use Rattle.striking.proofs.holds.Statement.{statement}
 use Rattle.striking.proofs.holds.Tie as tie
-use Rattle.striking.proofs.holds.Reads as reads
-use Rattle.striking.proofs.holds.Lts as lts
-use Rattle.inplace.proofs.either.Reads as either-reads
 
 abbrev Inv-loop : tie.InvT-loop
 Inv-loop table m strings some₀ j₀ j-end some j = (j ≤ j-end) × Holds (map (λ x. 64 * x) (take j strings)) table some
@@ -21,12 +18,6 @@ abbrev μ-loop : tie.MeasureT-loop
 
 loop-holds : tie.Need-loop-holds Inv-loop μ-loop
 loop-holds c = (search needs, holds-none _)
-
-mul-either : tie.Need-mul-either Inv-loop μ-loop
-mul-either c = search needs
-
-array-read-either : tie.Need-array-read-either Inv-loop μ-loop
-array-read-either c = search needs
 
 mul-either-2 : tie.Need-mul-either-2 Inv-loop μ-loop
 mul-either-2 c =
@@ -47,15 +38,6 @@ shared-slice-read-either c =
     let k = next-inside (s .args .m) _ (s .pre) (search needs) _ (t .loop-test .taken) in
     omega arith
 
-either-requires : tie.Need-either-requires Inv-loop μ-loop
-either-requires c κs = search needs
-
-add-j : tie.Need-add-j Inv-loop μ-loop
-add-j c = search needs
-
-loop-less : tie.Need-loop-less Inv-loop μ-loop
-loop-less c = search needs
-
 loop-again : tie.Need-loop-again Inv-loop μ-loop
 loop-again c =
     let t = c .before .before in
@@ -74,9 +56,6 @@ shared-slice-read-either-2 c =
     let s = t .before .before .before .before .before in
     number-inside (s .args .m) _ (s .pre) (t .if1 .taken)
 
-either-requires-2 : tie.Need-either-requires-2 Inv-loop μ-loop
-either-requires-2 c κs = search needs
-
 returns : tie.Need-returns Inv-loop μ-loop
 returns c =
     let t = c .before .before in
@@ -94,20 +73,5 @@ pub holds-spec : {M : Type 1} → statement M
 holds-spec =
     tie.close
     (tie.spec
-    Inv-loop
-    μ-loop
-    loop-holds
-    mul-either
-    array-read-either
-    mul-either-2
-    mul-either-3
-    shared-slice-read-either
-    either-requires
-    add-j
-    loop-less
-    loop-again
-    mul-either-4
-    shared-slice-read-either-2
-    either-requires-2
-    returns
-    returns-2)
+    Inv-loop μ-loop loop-holds (λ c. search needs) (λ c. search needs) mul-either-2 mul-either-3 shared-slice-read-either (λ c κs. search needs)
+    (λ c. search needs) (λ c. search needs) loop-again mul-either-4 shared-slice-read-either-2 (λ c κs. search needs) returns returns-2)

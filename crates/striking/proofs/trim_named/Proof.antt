@@ -8,10 +8,6 @@ use Rattle.striking.proofs.TrimmingLaws.{trimming-none, trimming-turn, 
 use borrow.Author.Needs.{needs}
 use Rattle.striking.proofs.trim_named.Statement.{statement}
 use Rattle.striking.proofs.trim_named.Tie as tie
-use Rattle.striking.proofs.trim_named.Reads as reads
-use Rattle.striking.proofs.trim_named.Lts as lts
-use Rattle.inplace.proofs.either.Reads as either-reads
-use Rattle.striking.proofs.trim.Reads as trim-reads
 
 abbrev Inv-loop : tie.InvT-loop
 Inv-loop table₀ known strings changed₀ trimmed₀ j₀ j-end table changed trimmed j = (j ≤ j-end) × (length table ≡ length table₀) × Trimming (take j strings) table₀ known table changed trimmed
@@ -21,12 +17,6 @@ abbrev μ-loop : tie.MeasureT-loop
 
 loop-holds : tie.Need-loop-holds Inv-loop μ-loop
 loop-holds c = (search needs, refl, trimming-none _ _)
-
-mul-trim : tie.Need-mul-trim Inv-loop μ-loop
-mul-trim c = search needs
-
-array-read-trim : tie.Need-array-read-trim Inv-loop μ-loop
-array-read-trim c = search needs
 
 trim-requires : tie.Need-trim-requires Inv-loop μ-loop
 trim-requires c κs =
@@ -38,24 +28,12 @@ trim-requires c κs =
     let k = next-inside (s .args .m) _ (s .pre .0) (search needs) _ (t .loop-test .taken) in
     (omega arith, omega arith)
 
-either-requires : tie.Need-either-requires Inv-loop μ-loop
-either-requires c κs = search needs
-
-add-j : tie.Need-add-j Inv-loop μ-loop
-add-j c = search needs
-
-loop-less : tie.Need-loop-less Inv-loop μ-loop
-loop-less c = search needs
-
 loop-again : tie.Need-loop-again Inv-loop μ-loop
 loop-again c =
     let t = c .before .before .before in
     let g = t .before .before in
     let s = g .before .before .before .before in
     (search needs, search needs, trimming-turn (s .args .m) _ (s .pre .0) (search needs) _ _ (g .loop-test .taken) (g .before .loop .inv .2) (t .trim .ensures) (c .either .ensures))
-
-same-length : tie.Need-same-length Inv-loop μ-loop
-same-length c = search needs
 
 returns : tie.Need-returns Inv-loop μ-loop
 returns c =
@@ -67,15 +45,5 @@ pub trim-named-spec : {M : Type 1} → statement M
 trim-named-spec =
     tie.close
     (tie.spec
-    Inv-loop
-    μ-loop
-    loop-holds
-    mul-trim
-    array-read-trim
-    trim-requires
-    either-requires
-    add-j
-    loop-less
-    loop-again
-    same-length
-    returns)
+    Inv-loop μ-loop loop-holds (λ c. search needs) (λ c. search needs) trim-requires (λ c κs. search needs) (λ c. search needs) (λ c. search needs)
+    loop-again (λ c. search needs) returns)

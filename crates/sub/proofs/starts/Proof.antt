@@ -10,11 +10,6 @@ use Rattle.sub.proofs.Steps.{starts-begun, starts-turn}
 use borrow.Author.Needs.{needs}
 use Rattle.sub.proofs.starts.Statement.{statement}
 use Rattle.sub.proofs.starts.Tie as tie
-use Rattle.sub.proofs.starts.Reads as reads
-use Rattle.sub.proofs.starts.Lts as lts
-use Rattle.sub.proofs.at_start.Reads as at-start-reads
-use Rattle.words.proofs.lowest.Reads as lowest-reads
-use Rattle.words.proofs.singleton.Reads as singleton-reads
 
 abbrev Inv-loop : tie.InvT-loop
 Inv-loop t x y n least most longest r₀ rest₀ found₀ r rest found = Started (row t x) (row t y) n least longest rest found r
@@ -25,9 +20,6 @@ abbrev μ-loop : tie.MeasureT-loop
 loop-holds : tie.Need-loop-holds Inv-loop μ-loop
 loop-holds c = starts-begun _ _ _ _ _ _ (c .before .pre .1)
 
-lowest-requires : tie.Need-lowest-requires Inv-loop μ-loop
-lowest-requires c κs = search needs
-
 at-start-requires : tie.Need-at-start-requires Inv-loop μ-loop
 at-start-requires c κs =
     let l = c .before .before .before in
@@ -35,9 +27,6 @@ at-start-requires c κs =
     let fits : Fits w64 (s .args .n) = search needs in
     let k = bit-high (s .args .n) 64 _ (fits .fits) (l .loop .inv .coming _ (c .before .lowest .ensures .here)) in
     (l .loop .inv .parts .count, omega arith, s .pre .0)
-
-singleton-requires : tie.Need-singleton-requires Inv-loop μ-loop
-singleton-requires c κs = search needs
 
 sub-rest : tie.Need-sub-rest Inv-loop μ-loop
 sub-rest c = rest-less _ _ _ (c .before .before .before .lowest .ensures) (c .singleton .ensures) .0
@@ -58,13 +47,4 @@ pub starts-spec : {M : Type 1} → statement M
 starts-spec =
     tie.close
     (tie.spec
-    Inv-loop
-    μ-loop
-    loop-holds
-    lowest-requires
-    at-start-requires
-    singleton-requires
-    sub-rest
-    loop-less
-    loop-again
-    returns)
+    Inv-loop μ-loop loop-holds (λ c κs. search needs) at-start-requires (λ c κs. search needs) sub-rest loop-less loop-again returns)

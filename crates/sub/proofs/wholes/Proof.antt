@@ -5,13 +5,6 @@ use Rattle.sub.proofs.Steps.{alive-at, end-small, wholes-covered, whole
 use borrow.Author.Needs.{needs}
 use Rattle.sub.proofs.wholes.Statement.{statement}
 use Rattle.sub.proofs.wholes.Tie as tie
-use Rattle.sub.proofs.wholes.Reads as reads
-use Rattle.sub.proofs.wholes.Lts as lts
-use Rattle.inplace.proofs.either.Reads as either-reads
-use Rattle.inplace.proofs.shorten.Reads as shorten-reads
-use Rattle.sub.proofs.fix.Reads as fix-reads
-use Rattle.words.proofs.highest.Reads as highest-reads
-use Rattle.words.proofs.lowest.Reads as lowest-reads
 
 lowest-requires : tie.Need-lowest-requires
 lowest-requires c κs = c .before .pre .some
@@ -21,15 +14,6 @@ sub-first c = alive-at _ _ _ _ _ (c .before .before .pre) _ (c .lowest .ensures 
 
 add-end : tie.Need-add-end
 add-end c = let e = end-small _ _ _ _ _ (c .before .before .pre) _ (c .lowest .ensures .here) in omega arith
-
-mul-ls : tie.Need-mul-ls
-mul-ls c = search needs
-
-mul-ls-2 : tie.Need-mul-ls-2
-mul-ls-2 c = search needs
-
-slice-read-ls : tie.Need-slice-read-ls
-slice-read-ls c = search needs
 
 shr-ls : tie.Need-shr-ls
 shr-ls c = let l = c .before in end-small _ _ _ _ _ (l .before .before .pre) _ (l .lowest .ensures .here)
@@ -62,12 +46,6 @@ shorten-requires c κs =
     wholes-ready (s .args .t .now) words _ _ _ _ (s .pre) _ _ (l .lowest .ensures) (h .highest .ensures) _
     refl _ _ (c .before .before .before .fix .ensures)
 
-either-requires : tie.Need-either-requires
-either-requires c κs = search needs
-
-same-length : tie.Need-same-length
-same-length c = search needs
-
 returns : tie.Need-returns
 returns c =
     let h = c .before .before .before .before .before .before .before .before in
@@ -84,18 +62,5 @@ pub wholes-spec : {M : Type 1} → statement M
 wholes-spec =
     tie.close
     (tie.spec
-    lowest-requires
-    sub-first
-    add-end
-    mul-ls
-    mul-ls-2
-    slice-read-ls
-    shr-ls
-    shl-ls
-    highest-requires
-    sub-fix
-    fix-requires
-    shorten-requires
-    either-requires
-    same-length
-    returns)
+    lowest-requires sub-first add-end (λ c. search needs) (λ c. search needs) (λ c. search needs) shr-ls shl-ls highest-requires sub-fix fix-requires
+    shorten-requires (λ c κs. search needs) (λ c. search needs) returns)

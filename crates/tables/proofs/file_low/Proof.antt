@@ -7,10 +7,6 @@ use Rattle.tables.proofs.LowLaws.{LowTo, low-start, low-step, all-low, 
 use borrow.Author.Needs.{needs}
 use Rattle.tables.proofs.file_low.Statement.{statement}
 use Rattle.tables.proofs.file_low.Tie as tie
-use Rattle.tables.proofs.file_low.Reads as reads
-use Rattle.tables.proofs.file_low.Lts as lts
-use Rattle.tables.proofs.low_at.Reads as low-at-reads
-use Rattle.little.proofs.eight.Reads as eight-reads
 
 abbrev Inv-loop : tie.InvT-loop
 Inv-loop bytes k s end i₀ i = (i ≤ end) × LowTo k (λ j. little (part (8 * j) 8 bytes)) i
@@ -18,20 +14,8 @@ Inv-loop bytes k s end i₀ i = (i ≤ end) × LowTo k (λ j. little (part (8 * 
 abbrev μ-loop : tie.MeasureT-loop
 μ-loop bytes k s end i₀ i = end - i
 
-mul-end : tie.Need-mul-end Inv-loop μ-loop
-mul-end c = search needs
-
 loop-holds : tie.Need-loop-holds Inv-loop μ-loop
 loop-holds c = (search needs, low-start _ _)
-
-mul-eight : tie.Need-mul-eight Inv-loop μ-loop
-mul-eight c = search needs
-
-eight-requires : tie.Need-eight-requires Inv-loop μ-loop
-eight-requires c κs = search needs
-
-low-at-requires : tie.Need-low-at-requires Inv-loop μ-loop
-low-at-requires c κs = search needs
 
 returns : tie.Need-returns Inv-loop μ-loop
 returns c =
@@ -39,12 +23,6 @@ returns c =
     let w = c .before .before .eight in
     let test : c .before .before .before .before .loop .i < 64 * a .s = omega arith in
     λ t. sym (some-high (a .k) (a .s) _ _ (file-words (a .s) t (a .bytes .now)) _ _ _ test (w .ensures) (c .before .low-at .ensures) (c .if1 .taken))
-
-add-i : tie.Need-add-i Inv-loop μ-loop
-add-i c = search needs
-
-loop-less : tie.Need-loop-less Inv-loop μ-loop
-loop-less c = search needs
 
 loop-again : tie.Need-loop-again Inv-loop μ-loop
 loop-again c =
@@ -61,15 +39,5 @@ pub file-low-spec : {M : Type 1} → statement M
 file-low-spec =
     tie.close
     (tie.spec
-    Inv-loop
-    μ-loop
-    mul-end
-    loop-holds
-    mul-eight
-    eight-requires
-    low-at-requires
-    returns
-    add-i
-    loop-less
-    loop-again
-    returns-2)
+    Inv-loop μ-loop (λ c. search needs) loop-holds (λ c. search needs) (λ c κs. search needs) (λ c κs. search needs) returns (λ c. search needs)
+    (λ c. search needs) loop-again returns-2)

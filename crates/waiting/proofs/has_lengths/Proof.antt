@@ -4,8 +4,6 @@ use Rattle.waiting.proofs.BeginLaws.{Lengthy, lengthy-start, lengthy-ne
 use borrow.Author.Needs.{needs}
 use Rattle.waiting.proofs.has_lengths.Statement.{statement}
 use Rattle.waiting.proofs.has_lengths.Tie as tie
-use Rattle.waiting.proofs.has_lengths.Reads as reads
-use Rattle.waiting.proofs.has_lengths.Lts as lts
 
 abbrev Inv-loop : tie.InvT-loop
 Inv-loop table s x₀ x = (x ≤ s) × Lengthy table x
@@ -16,23 +14,8 @@ abbrev μ-loop : tie.MeasureT-loop
 loop-holds : tie.Need-loop-holds Inv-loop μ-loop
 loop-holds c = (search needs, lengthy-start _)
 
-mul-if1 : tie.Need-mul-if1 Inv-loop μ-loop
-mul-if1 c = search needs
-
-mul-if1-2 : tie.Need-mul-if1-2 Inv-loop μ-loop
-mul-if1-2 c = search needs
-
-shared-slice-read-if1 : tie.Need-shared-slice-read-if1 Inv-loop μ-loop
-shared-slice-read-if1 c = search needs
-
 returns : tie.Need-returns Inv-loop μ-loop
 returns c = lengthy-stop (c .before .before .loop-test .taken) (c .if1 .taken)
-
-add-x : tie.Need-add-x Inv-loop μ-loop
-add-x c = search needs
-
-loop-less : tie.Need-loop-less Inv-loop μ-loop
-loop-less c = search needs
 
 loop-again : tie.Need-loop-again Inv-loop μ-loop
 loop-again c = (search needs, lengthy-next (c .if1 .left) (c .before .before .before .loop .inv .1))
@@ -44,14 +27,5 @@ pub has-lengths-spec : {M : Type 1} → statement M
 has-lengths-spec =
     tie.close
     (tie.spec
-    Inv-loop
-    μ-loop
-    loop-holds
-    mul-if1
-    mul-if1-2
-    shared-slice-read-if1
-    returns
-    add-x
-    loop-less
-    loop-again
+    Inv-loop μ-loop loop-holds (λ c. search needs) (λ c. search needs) (λ c. search needs) returns (λ c. search needs) (λ c. search needs) loop-again
     returns-2)

@@ -7,11 +7,6 @@ use Rattle.waiting.proofs.TakingLaws.{taking-bit, taking-inside, taking
 use borrow.Author.Needs.{needs}
 use Rattle.waiting.proofs.run.Statement.{statement}
 use Rattle.waiting.proofs.run.Tie as tie
-use Rattle.waiting.proofs.run.Reads as reads
-use Rattle.waiting.proofs.run.Lts as lts
-use Rattle.waiting.proofs.next.Reads as next-reads
-use Rattle.waiting.proofs.step.Reads as step-reads
-use Rattle.words.proofs.singleton.Reads as singleton-reads
 
 abbrev Inv-loop : tie.InvT-loop
 Inv-loop file p ix kinds start table₀ pending₀ j₀ table pending j = Went (problemIn file p) table₀ start table pending × (j < 64)
@@ -23,12 +18,6 @@ loop-holds : tie.Need-loop-holds Inv-loop μ-loop
 loop-holds c =
     let s = c .before .before .before .before in
     (went-start _ _ _ (s .pre .1) (s .pre .5) (s .pre .4), search needs)
-
-next-requires : tie.Need-next-requires Inv-loop μ-loop
-next-requires c κs = search needs
-
-singleton-requires : tie.Need-singleton-requires Inv-loop μ-loop
-singleton-requires c κs = search needs
 
 sub-pending : tie.Need-sub-pending Inv-loop μ-loop
 sub-pending c =
@@ -42,9 +31,6 @@ step-requires c κs =
     let l = t .before .before .before in
     let s = l .before .before .before .before .before in
     (s .pre .0, l .loop .inv .0 .lent, s .pre .2, s .pre .3, taking-inside _ _ (s .pre .0) (l .loop .inv .0) _ _ (t .before .next .ensures .0) (t .singleton .ensures), l .loop .inv .0 .tidy, s .pre .6)
-
-enum-told : tie.Need-enum-told Inv-loop μ-loop
-enum-told c = search needs
 
 loop-less : tie.Need-loop-less Inv-loop μ-loop
 loop-less c =
@@ -68,9 +54,6 @@ loop-again c =
       search needs,
     )
 
-enum-known-more : tie.Need-enum-known-more Inv-loop μ-loop
-enum-known-more c = search needs
-
 loop-less-2 : tie.Need-loop-less-2 Inv-loop μ-loop
 loop-less-2 c =
     let r = c .before .before .before .before .before in
@@ -92,9 +75,6 @@ loop-again-2 c =
           (c .before .more .given .1) .0,
       search needs,
     )
-
-enum-told-2 : tie.Need-enum-told-2 Inv-loop μ-loop
-enum-told-2 c = search needs
 
 same-length : tie.Need-same-length Inv-loop μ-loop
 same-length c =
@@ -127,21 +107,5 @@ pub run-spec : {M : Type 1} → statement M
 run-spec =
     tie.close
     (tie.spec
-    Inv-loop
-    μ-loop
-    loop-holds
-    next-requires
-    singleton-requires
-    sub-pending
-    step-requires
-    enum-told
-    loop-less
-    loop-again
-    enum-known-more
-    loop-less-2
-    loop-again-2
-    enum-told-2
-    same-length
-    returns
-    same-length-2
-    returns-2)
+    Inv-loop μ-loop loop-holds (λ c κs. search needs) (λ c κs. search needs) sub-pending step-requires (λ c. search needs) loop-less loop-again
+    (λ c. search needs) loop-less-2 loop-again-2 (λ c. search needs) same-length returns same-length-2 returns-2)

@@ -4,22 +4,12 @@ use Rattle.waiting.proofs.SettleLaws.{ready-asks, settle-unready, lengt
 use borrow.Author.Needs.{needs}
 use Rattle.waiting.proofs.settle.Statement.{statement}
 use Rattle.waiting.proofs.settle.Tie as tie
-use Rattle.waiting.proofs.settle.Reads as reads
-use Rattle.waiting.proofs.settle.Lts as lts
-use Rattle.rounds.proofs.every_value.Reads as every-value-reads
-use Rattle.waiting.proofs.first_waiting.Reads as first-waiting-reads
-use Rattle.waiting.proofs.has_lengths.Reads as has-lengths-reads
-use Rattle.waiting.proofs.ready.Reads as ready-reads
-use Rattle.waiting.proofs.run.Reads as run-reads
 
 ready-requires : tie.Need-ready-requires
 ready-requires c κs =
     let k = c .before in
     let s = k .before .before .before .before in
     ready-asks _ _ _ _ _ (λ i. k .before .before .before .shared-slice-known .given i .fits) (words-of (s .args .table .now) (λ i. k .slice-known .given i .fits)) (s .pre .0, s .pre .1, s .pre .2, s .pre .3, s .pre .4)
-
-same-length : tie.Need-same-length
-same-length c = search needs
 
 returns : tie.Need-returns
 returns c =
@@ -42,9 +32,6 @@ has-lengths-requires c κs =
     let s = k .before .before .before .before in
     lengths-asks _ _ _ _ _ (λ i. k .before .before .before .shared-slice-known .given i .fits) (words-of (s .args .table .now) (λ i. k .slice-known .given i .fits)) (s .pre .0, s .pre .1, s .pre .2, s .pre .3, s .pre .4) (y .ready .ensures)
 
-same-length-2 : tie.Need-same-length-2
-same-length-2 c = search needs
-
 returns-2 : tie.Need-returns-2
 returns-2 c =
     let l = c .before in
@@ -66,9 +53,6 @@ run-requires c κs =
     let s = k .before .before .before .before in
     run-asks _ _ _ _ _ (λ i. k .before .before .before .shared-slice-known .given i .fits) (words-of (s .args .table .now) (λ i. k .slice-known .given i .fits)) (s .pre .0, s .pre .1, s .pre .2, s .pre .3, s .pre .4) (y .ready .ensures) (not-false _ (e .if1 .left)) (w .first-waiting .ensures) (l .has-lengths .ensures) (not-false _ (d .if2 .left)) (s .pre .5)
 
-same-length-3 : tie.Need-same-length-3
-same-length-3 c = search needs
-
 returns-3 : tie.Need-returns-3
 returns-3 c =
     let r = c .before .before .before in
@@ -89,9 +73,6 @@ every-value-requires c κs =
     let s = k .before .before .before .before in
     settle-strings _ _ _ _ _ (λ i. k .before .before .before .shared-slice-known .given i .fits) (words-of (s .args .table .now) (λ i. k .slice-known .given i .fits)) (s .pre .0, s .pre .1, s .pre .2, s .pre .3, s .pre .4) (y .ready .ensures) (not-false _ (e .if1 .left)) (w .first-waiting .ensures) (r .run .ensures)
 
-same-length-4 : tie.Need-same-length-4
-same-length-4 c = search needs
-
 returns-4 : tie.Need-returns-4
 returns-4 c =
     let i = c .before .before in
@@ -107,16 +88,5 @@ pub settle-spec : {M : Type 1} → statement M
 settle-spec =
     tie.close
     (tie.spec
-    ready-requires
-    same-length
-    returns
-    first-waiting-requires
-    has-lengths-requires
-    same-length-2
-    returns-2
-    run-requires
-    same-length-3
-    returns-3
-    every-value-requires
-    same-length-4
-    returns-4)
+    ready-requires (λ c. search needs) returns first-waiting-requires has-lengths-requires (λ c. search needs) returns-2 run-requires (λ c. search needs)
+    returns-3 every-value-requires (λ c. search needs) returns-4)

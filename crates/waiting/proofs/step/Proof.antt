@@ -5,12 +5,6 @@ use Rattle.waiting.proofs.StepLaws.{Taken, taken, narrow-asks, waking-a
 use borrow.Author.Needs.{needs}
 use Rattle.waiting.proofs.step.Statement.{statement}
 use Rattle.waiting.proofs.step.Tie as tie
-use Rattle.waiting.proofs.step.Reads as reads
-use Rattle.waiting.proofs.step.Lts as lts
-use Rattle.index.proofs.waking.Reads as waking-reads
-use Rattle.records.proofs.at.Reads as at-reads
-use Rattle.steps.proofs.narrow.Reads as narrow-reads
-use Rattle.words.proofs.singleton.Reads as singleton-reads
 
 -- what is known once the record is read
 known : (c : tie.After-r)
@@ -24,24 +18,6 @@ known c =
     taken _ _ _ _ _ (λ i. at .before .before .before .shared-slice-known .given i .fits) (words-of (s .args .table .now) (λ i. at .slice-known .given i .fits)) (s .pre .0, s .pre .1, s .pre .2, s .pre .3, s .pre .4, s .pre .5) _
     (a .at .ensures) _ (c .r .given .1)
 
-sub-at : tie.Need-sub-at
-sub-at c = search needs
-
-part-at-start : tie.Need-part-at-start
-part-at-start c = search needs
-
-part-at-end : tie.Need-part-at-end
-part-at-end c = search needs
-
-at-requires : tie.Need-at-requires
-at-requires c κs = search needs
-
-enum-known-r : tie.Need-enum-known-r
-enum-known-r c = search needs
-
-enum-told : tie.Need-enum-told
-enum-told c = search needs
-
 returns : tie.Need-returns
 returns c =
     let a = c .before .before in
@@ -52,9 +28,6 @@ narrow-requires : tie.Need-narrow-requires
 narrow-requires c κs =
     let k = c .before .before in
     narrow-asks (known k) (k .before .before .before .before .before .before .before .before .pre .6)
-
-same-length : tie.Need-same-length
-same-length c = search needs
 
 returns-2 : tie.Need-returns-2
 returns-2 c =
@@ -68,26 +41,17 @@ waking-requires c κs =
     let k = known (n .before .before .before) in
     waking-asks k
 
-same-length-2 : tie.Need-same-length-2
-same-length-2 c = search needs
-
 returns-3 : tie.Need-returns-3
 returns-3 c =
     let n = c .before .before .before .before .before .before in
     let k = known (n .before .before .before) in
     turned-quiet k (n .narrow .ensures) (not-false _ (c .before .before .if1 .left)) (c .before .waking .ensures) (c .if2 .taken)
 
-singleton-requires : tie.Need-singleton-requires
-singleton-requires c κs = search needs
-
 sub-t21 : tie.Need-sub-t21
 sub-t21 c =
     let n = c .before .before .before .before .before .before .before in
     let k = known (n .before .before .before) in
     waking-bit k (n .narrow .ensures) (not-false _ (c .before .before .before .if1 .left)) (c .before .before .waking .ensures) (c .before .if2 .left) (c .singleton .ensures)
-
-same-length-3 : tie.Need-same-length-3
-same-length-3 c = search needs
 
 returns-4 : tie.Need-returns-4
 returns-4 c =
@@ -99,20 +63,5 @@ pub step-spec : {M : Type 1} → statement M
 step-spec =
     tie.close
     (tie.spec
-    sub-at
-    part-at-start
-    part-at-end
-    at-requires
-    enum-known-r
-    enum-told
-    returns
-    narrow-requires
-    same-length
-    returns-2
-    waking-requires
-    same-length-2
-    returns-3
-    singleton-requires
-    sub-t21
-    same-length-3
-    returns-4)
+    (λ c. search needs) (λ c. search needs) (λ c. search needs) (λ c κs. search needs) (λ c. search needs) (λ c. search needs) returns narrow-requires
+    (λ c. search needs) returns-2 waking-requires (λ c. search needs) returns-3 (λ c κs. search needs) sub-t21 (λ c. search needs) returns-4)

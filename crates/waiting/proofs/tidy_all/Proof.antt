@@ -5,9 +5,6 @@ use Rattle.waiting.proofs.BeginLaws.{Trimmings, trims-start, trims-leng
 use borrow.Author.Needs.{needs}
 use Rattle.waiting.proofs.tidy_all.Statement.{statement}
 use Rattle.waiting.proofs.tidy_all.Tie as tie
-use Rattle.waiting.proofs.tidy_all.Reads as reads
-use Rattle.waiting.proofs.tidy_all.Lts as lts
-use Rattle.inplace.proofs.tidy.Reads as tidy-reads
 
 abbrev Inv-loop : tie.InvT-loop
 Inv-loop table₀ s x₀ table x = (x ≤ s) × Trimmings s table₀ table x
@@ -37,12 +34,6 @@ returns c =
     let l = t .before .before in
     trims-stop (l .before .before .before .pre) (l .loop-test .taken) (l .before .loop .inv .1) (t .tidy .ensures) (not-true _ (c .if1 .taken))
 
-add-x : tie.Need-add-x Inv-loop μ-loop
-add-x c = search needs
-
-loop-less : tie.Need-loop-less Inv-loop μ-loop
-loop-less c = search needs
-
 loop-again : tie.Need-loop-again Inv-loop μ-loop
 loop-again c =
     let t = c .before .before .before in
@@ -59,14 +50,4 @@ pub tidy-all-spec : {M : Type 1} → statement M
 tidy-all-spec =
     tie.close
     (tie.spec
-    Inv-loop
-    μ-loop
-    loop-holds
-    tidy-requires
-    same-length
-    returns
-    add-x
-    loop-less
-    loop-again
-    same-length-2
-    returns-2)
+    Inv-loop μ-loop loop-holds tidy-requires same-length returns (λ c. search needs) (λ c. search needs) loop-again same-length-2 returns-2)

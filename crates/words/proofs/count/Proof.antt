@@ -2,8 +2,6 @@ use mathlib.Core.Path.{sym}
 use Rattle.laws.proofs.BitsLaws.{bits-ones}
 use Rattle.words.proofs.count.Statement.{statement}
 use Rattle.words.proofs.count.Tie as tie
-use Rattle.words.proofs.count.Reads as reads
-use Rattle.words.proofs.count.Lts as lts
 
 -- `count_ones` counts as `bits` does
 returns : tie.Need-returns

@@ -4,17 +4,12 @@ use Rattle.words.proofs.EndLaws.{highest-leading}
 use borrow.Author.Needs.{needs}
 use Rattle.words.proofs.highest.Statement.{statement}
 use Rattle.words.proofs.highest.Tie as tie
-use Rattle.words.proofs.highest.Reads as reads
-use Rattle.words.proofs.highest.Lts as lts
 
 sub-result : tie.Need-sub-result
 sub-result c = omega (arith, leading-top 64 (c .args .w) (c .pre) (c .fits .w .fits) .1)
-
-cast-result : tie.Need-cast-result
-cast-result c = search needs
 
 returns : tie.Need-returns
 returns c = highest-leading (c .args .w) (c .pre) (c .fits .w .fits)
 
 pub highest-spec : {M : Type 1} → statement M
-highest-spec = tie.close (tie.spec sub-result cast-result returns)
+highest-spec = tie.close (tie.spec sub-result (λ c. search needs) returns)

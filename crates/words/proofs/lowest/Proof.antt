@@ -3,8 +3,6 @@ use lib.Count.{trailing-le}
 use Rattle.words.proofs.EndLaws.{lowest-trailing}
 use Rattle.words.proofs.lowest.Statement.{statement}
 use Rattle.words.proofs.lowest.Tie as tie
-use Rattle.words.proofs.lowest.Reads as reads
-use Rattle.words.proofs.lowest.Lts as lts
 
 cast-result : tie.Need-cast-result
 cast-result c = omega (arith, trailing-le 64 (c .args .w))

@@ -5,15 +5,6 @@ use Rattle.words.proofs.NoneFromLaws.{leb-noneFrom}
 use borrow.Author.Needs.{needs}
 use Rattle.words.proofs.none_from.Statement.{statement}
 use Rattle.words.proofs.none_from.Tie as tie
-use Rattle.words.proofs.none_from.Reads as reads
-use Rattle.words.proofs.none_from.Lts as lts
-use Rattle.words.proofs.low_mask.Reads as low-mask-reads
-
-sub-low-mask : tie.Need-sub-low-mask
-sub-low-mask c = search needs
-
-low-mask-requires : tie.Need-low-mask-requires
-low-mask-requires c κs = search needs
 
 returns : tie.Need-returns
 returns c =
@@ -23,4 +14,4 @@ returns c =
     rw (c .low-mask .ensures, e) (leb-noneFrom k (s .args .w) (search needs))
 
 pub none-from-spec : {M : Type 1} → statement M
-none-from-spec = tie.close (tie.spec sub-low-mask low-mask-requires returns)
+none-from-spec = tie.close (tie.spec (λ c. search needs) (λ c κs. search needs) returns)

@@ -7,14 +7,9 @@ use lib.Pow.{shl-exact}
 use borrow.Author.Needs.{needs}
 use Rattle.words.proofs.singleton.Statement.{statement}
 use Rattle.words.proofs.singleton.Tie as tie
-use Rattle.words.proofs.singleton.Reads as reads
-use Rattle.words.proofs.singleton.Lts as lts
-
-shl-result : tie.Need-shl-result
-shl-result c = search needs
 
 returns : tie.Need-returns
 returns c = let l : 1 + c .args .i ≤ 64 = omega arith in shl-exact 1 (c .args .i) 64 (lit< tt) l ∙ one-mul (2 ^ c .args .i)
 
 pub singleton-spec : {M : Type 1} → statement M
-singleton-spec = tie.close (tie.spec shl-result returns)
+singleton-spec = tie.close (tie.spec (λ c. search needs) returns)

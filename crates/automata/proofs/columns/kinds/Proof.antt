@@ -7,10 +7,6 @@ use native.Mathlib.Omega.{arith}
 use borrow.Author.Needs.{needs}
 use Rattle.automata.proofs.columns.kinds.Statement.{statement}
 use Rattle.automata.proofs.columns.kinds.Tie as tie
-use Rattle.automata.proofs.columns.kinds.Reads as reads
-use Rattle.automata.proofs.columns.kinds.Lts as lts
-use Rattle.automata.proofs.columns.kinds_of.Reads as kinds-of-reads
-use Rattle.automata.proofs.walk.start.Reads as start-reads
 
 abbrev Inv-loop : tie.InvT-loop
 Inv-loop bytes k d ks₀ i₀ ks i = Finding k bytes i ks
@@ -27,12 +23,6 @@ start-requires c κs = let s = c .before .before .before .before in (search need
 sub-kinds-of : tie.Need-sub-kinds-of Inv-loop μ-loop
 sub-kinds-of c = c .start .ensures .inside
 
-part-kinds-of-start : tie.Need-part-kinds-of-start Inv-loop μ-loop
-part-kinds-of-start c = search needs
-
-part-kinds-of-end : tie.Need-part-kinds-of-end Inv-loop μ-loop
-part-kinds-of-end c = search needs
-
 mul-kinds-of : tie.Need-mul-kinds-of Inv-loop μ-loop
 mul-kinds-of c =
     let t = c .before .before in
@@ -46,12 +36,6 @@ kinds-of-requires c κs =
     let l = t .before .before .loop in
     let s = t .before .before .before .before .before in
     (search needs, starts-lent _ _ _ _ (t .start .ensures), omega (arith, l .inv .size, t .before .loop-test .taken, s .pre .1), finding-blank _ _ _ (s .pre .0) (s .pre .2) _ _ (l .inv))
-
-add-i : tie.Need-add-i Inv-loop μ-loop
-add-i c = search needs
-
-loop-less : tie.Need-loop-less Inv-loop μ-loop
-loop-less c = search needs
 
 loop-again : tie.Need-loop-again Inv-loop μ-loop
 loop-again c =
@@ -73,17 +57,5 @@ pub kinds-spec : {M : Type 1} → statement M
 kinds-spec =
     tie.close
     (tie.spec
-    Inv-loop
-    μ-loop
-    loop-holds
-    start-requires
-    sub-kinds-of
-    part-kinds-of-start
-    part-kinds-of-end
-    mul-kinds-of
-    kinds-of-requires
-    add-i
-    loop-less
-    loop-again
-    same-length
-    returns)
+    Inv-loop μ-loop loop-holds start-requires sub-kinds-of (λ c. search needs) (λ c. search needs) mul-kinds-of kinds-of-requires (λ c. search needs)
+    (λ c. search needs) loop-again same-length returns)

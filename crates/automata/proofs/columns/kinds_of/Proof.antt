@@ -6,9 +6,6 @@ use native.Mathlib.Omega.{arith}
 use borrow.Author.Needs.{needs}
 use Rattle.automata.proofs.columns.kinds_of.Statement.{statement}
 use Rattle.automata.proofs.columns.kinds_of.Tie as tie
-use Rattle.automata.proofs.columns.kinds_of.Reads as reads
-use Rattle.automata.proofs.columns.kinds_of.Lts as lts
-use Rattle.automata.proofs.columns.find.Reads as find-reads
 
 abbrev Inv-loop : tie.InvT-loop
 Inv-loop d k ks₀ at a₀ ks a = Partly (machine k d) (stateCount d) k ks at a × Around ks₀ at ks
@@ -24,12 +21,6 @@ find-requires c κs =
     let l = c .before .before .loop in
     let s = c .before .before .before .before .before in
     (search needs, search needs, c .before .loop-test .taken, omega (arith, l .inv .1 .size, s .pre .2), l .inv .0)
-
-add-a : tie.Need-add-a Inv-loop μ-loop
-add-a c = search needs
-
-loop-less : tie.Need-loop-less Inv-loop μ-loop
-loop-less c = search needs
 
 loop-again : tie.Need-loop-again Inv-loop μ-loop
 loop-again c =
@@ -50,12 +41,4 @@ pub kinds-of-spec : {M : Type 1} → statement M
 kinds-of-spec =
     tie.close
     (tie.spec
-    Inv-loop
-    μ-loop
-    loop-holds
-    find-requires
-    add-a
-    loop-less
-    loop-again
-    same-length
-    returns)
+    Inv-loop μ-loop loop-holds find-requires (λ c. search needs) (λ c. search needs) loop-again same-length returns)

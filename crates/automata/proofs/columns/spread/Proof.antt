@@ -5,10 +5,6 @@ use Rattle.automata.proofs.KindLaws.{Spreading, spread-start, spread-tu
 use borrow.Author.Needs.{needs}
 use Rattle.automata.proofs.columns.spread.Statement.{statement}
 use Rattle.automata.proofs.columns.spread.Tie as tie
-use Rattle.automata.proofs.columns.spread.Reads as reads
-use Rattle.automata.proofs.columns.spread.Lts as lts
-use Rattle.words.proofs.lowest.Reads as lowest-reads
-use Rattle.words.proofs.singleton.Reads as singleton-reads
 
 abbrev Inv-loop : tie.InvT-loop
 Inv-loop ks₀ at w rest₀ ks rest = Spreading ks₀ at w rest ks
@@ -19,20 +15,8 @@ abbrev μ-loop : tie.MeasureT-loop
 loop-holds : tie.Need-loop-holds Inv-loop μ-loop
 loop-holds c = spread-start _ _ _
 
-lowest-requires : tie.Need-lowest-requires Inv-loop μ-loop
-lowest-requires c κs = search needs
-
-add-ks : tie.Need-add-ks Inv-loop μ-loop
-add-ks c = search needs
-
-mul-ks : tie.Need-mul-ks Inv-loop μ-loop
-mul-ks c = search needs
-
 slice-write-ks : tie.Need-slice-write-ks Inv-loop μ-loop
 slice-write-ks c = let s = c .before .before .loop .inv .size in search needs
-
-singleton-requires : tie.Need-singleton-requires Inv-loop μ-loop
-singleton-requires c κs = search needs
 
 sub-rest : tie.Need-sub-rest Inv-loop μ-loop
 sub-rest c = lowest-off _ _ _ (c .before .lowest .ensures) (c .singleton .ensures) .0
@@ -53,16 +37,5 @@ pub spread-spec : {M : Type 1} → statement M
 spread-spec =
     tie.close
     (tie.spec
-    Inv-loop
-    μ-loop
-    loop-holds
-    lowest-requires
-    add-ks
-    mul-ks
-    slice-write-ks
-    singleton-requires
-    sub-rest
-    loop-less
-    loop-again
-    same-length
-    returns)
+    Inv-loop μ-loop loop-holds (λ c κs. search needs) (λ c. search needs) (λ c. search needs) slice-write-ks (λ c κs. search needs) sub-rest loop-less
+    loop-again same-length returns)

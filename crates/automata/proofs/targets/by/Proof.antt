@@ -8,13 +8,6 @@ use native.Mathlib.Omega.{arith}
 use borrow.Author.Needs.{needs}
 use Rattle.automata.proofs.targets.by.Statement.{statement}
 use Rattle.automata.proofs.targets.by.Tie as tie
-use Rattle.automata.proofs.targets.by.Reads as reads
-use Rattle.automata.proofs.targets.by.Lts as lts
-use Rattle.automata.proofs.below.Reads as below-reads
-use Rattle.automata.proofs.next.Reads as next-reads
-use Rattle.words.proofs.has.Reads as has-reads
-use Rattle.words.proofs.lowest.Reads as lowest-reads
-use Rattle.words.proofs.singleton.Reads as singleton-reads
 
 abbrev Inv-loop : tie.InvT-loop
 Inv-loop d k p into symbols rest₀ r₀ rest r = Walked k symbols (ByInto (machine k d) p into symbols) rest r
@@ -22,23 +15,11 @@ Inv-loop d k p into symbols rest₀ r₀ rest r = Walked k symbols (ByInto (mach
 abbrev μ-loop : tie.MeasureT-loop
 μ-loop d k p into symbols rest₀ r₀ rest r = rest
 
-below-requires : tie.Need-below-requires Inv-loop μ-loop
-below-requires c κs = search needs
-
 loop-holds : tie.Need-loop-holds Inv-loop μ-loop
 loop-holds c = walked-start _ _ _ _ (λ i t x. x .1) (c .below .ensures)
 
-lowest-requires : tie.Need-lowest-requires Inv-loop μ-loop
-lowest-requires c κs = search needs
-
-singleton-requires : tie.Need-singleton-requires Inv-loop μ-loop
-singleton-requires c κs = search needs
-
 next-requires : tie.Need-next-requires Inv-loop μ-loop
 next-requires c κs = (search needs, search needs, search needs, walked-next _ _ _ _ _ _ (c .before .before .before .loop .inv) (c .before .lowest .ensures))
-
-has-requires : tie.Need-has-requires Inv-loop μ-loop
-has-requires c κs = search needs
 
 sub-rest : tie.Need-sub-rest Inv-loop μ-loop
 sub-rest c = lowest-off _ _ _ (c .before .before .before .before .lowest .ensures) (c .before .before .before .singleton .ensures) .0
@@ -65,15 +46,5 @@ pub by-spec : {M : Type 1} → statement M
 by-spec =
     tie.close
     (tie.spec
-    Inv-loop
-    μ-loop
-    below-requires
-    loop-holds
-    lowest-requires
-    singleton-requires
-    next-requires
-    has-requires
-    sub-rest
-    loop-less
-    loop-again
-    returns)
+    Inv-loop μ-loop (λ c κs. search needs) loop-holds (λ c κs. search needs) (λ c κs. search needs) next-requires (λ c κs. search needs) sub-rest loop-less
+    loop-again returns)

@@ -2,22 +2,6 @@ use Rattle.automata.proofs.TargetLaws.{move-small, targets-at, added-no
 use borrow.Author.Needs.{needs}
 use Rattle.automata.proofs.targets.entry.Statement.{statement}
 use Rattle.automata.proofs.targets.entry.Tie as tie
-use Rattle.automata.proofs.targets.entry.Reads as reads
-use Rattle.automata.proofs.targets.entry.Lts as lts
-use Rattle.automata.proofs.targets.by.Reads as by-reads
-use Rattle.automata.proofs.targets.first_entry.Reads as first-entry-reads
-
-mul-to : tie.Need-mul-to
-mul-to c = search needs
-
-element-copy-out-to : tie.Need-element-copy-out-to
-element-copy-out-to c = search needs
-
-first-entry-requires : tie.Need-first-entry-requires
-first-entry-requires c κs = search needs
-
-returns : tie.Need-returns
-returns c = search needs
 
 returns-2 : tie.Need-returns-2
 returns-2 c =
@@ -33,9 +17,6 @@ returns-3 c =
       s .pre .5,
     )
 
-by-requires : tie.Need-by-requires
-by-requires c κs = search needs
-
 returns-4 : tie.Need-returns-4
 returns-4 c =
     let e = c .before .before .before in
@@ -49,11 +30,4 @@ pub entry-spec : {M : Type 1} → statement M
 entry-spec =
     tie.close
     (tie.spec
-    mul-to
-    element-copy-out-to
-    first-entry-requires
-    returns
-    returns-2
-    returns-3
-    by-requires
-    returns-4)
+    (λ c. search needs) (λ c. search needs) (λ c κs. search needs) (λ c. search needs) returns-2 returns-3 (λ c κs. search needs) returns-4)

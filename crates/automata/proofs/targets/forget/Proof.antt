@@ -7,8 +7,6 @@ use native.Mathlib.Omega.{arith}
 use borrow.Author.Needs.{needs}
 use Rattle.automata.proofs.targets.forget.Statement.{statement}
 use Rattle.automata.proofs.targets.forget.Tie as tie
-use Rattle.automata.proofs.targets.forget.Reads as reads
-use Rattle.automata.proofs.targets.forget.Lts as lts
 
 abbrev Inv-loop : tie.InvT-loop
 Inv-loop tos₀ p₀ tos p = (p ≤ 32) × (length tos ≡ 32) × ((o : ℕ) → o < p → word tos o ≡ 0)
@@ -18,18 +16,6 @@ abbrev μ-loop : tie.MeasureT-loop
 
 loop-holds : tie.Need-loop-holds Inv-loop μ-loop
 loop-holds c = (search needs, c .pre, λ o h. absurd (omega arith))
-
-mul-tos : tie.Need-mul-tos Inv-loop μ-loop
-mul-tos c = search needs
-
-element-write-tos : tie.Need-element-write-tos Inv-loop μ-loop
-element-write-tos c = search needs
-
-add-p : tie.Need-add-p Inv-loop μ-loop
-add-p c = search needs
-
-loop-less : tie.Need-loop-less Inv-loop μ-loop
-loop-less c = search needs
 
 loop-again : tie.Need-loop-again Inv-loop μ-loop
 loop-again c =
@@ -43,12 +29,4 @@ pub forget-spec : {M : Type 1} → statement M
 forget-spec =
     tie.close
     (tie.spec
-    Inv-loop
-    μ-loop
-    loop-holds
-    mul-tos
-    element-write-tos
-    add-p
-    loop-less
-    loop-again
-    returns)
+    Inv-loop μ-loop loop-holds (λ c. search needs) (λ c. search needs) (λ c. search needs) (λ c. search needs) loop-again returns)

@@ -9,14 +9,6 @@ use native.Mathlib.Omega.{arith}
 use borrow.Author.Needs.{needs}
 use Rattle.automata.proofs.targets.steps_back.Statement.{statement}
 use Rattle.automata.proofs.targets.steps_back.Tie as tie
-use Rattle.automata.proofs.targets.steps_back.Reads as reads
-use Rattle.automata.proofs.targets.steps_back.Lts as lts
-use Rattle.automata.proofs.below.Reads as below-reads
-use Rattle.automata.proofs.only.Reads as only-reads
-use Rattle.automata.proofs.states.Reads as states-reads
-use Rattle.automata.proofs.targets.entry.Reads as entry-reads
-use Rattle.words.proofs.lowest.Reads as lowest-reads
-use Rattle.words.proofs.singleton.Reads as singleton-reads
 
 abbrev Inv-loop : tie.InvT-loop
 Inv-loop d k symbols tos₀ from into rest₀ found₀ states₀ tos rest found states =
@@ -26,20 +18,11 @@ Inv-loop d k symbols tos₀ from into rest₀ found₀ states₀ tos rest found 
 abbrev μ-loop : tie.MeasureT-loop
 μ-loop d k symbols tos₀ from into rest₀ found₀ states₀ tos rest found states = rest
 
-states-requires : tie.Need-states-requires Inv-loop μ-loop
-states-requires c κs = search needs
-
-below-requires : tie.Need-below-requires Inv-loop μ-loop
-below-requires c κs = search needs
-
 loop-holds : tie.Need-loop-holds Inv-loop μ-loop
 loop-holds c =
     let s = c .before .before .before in
     let low = rw (c .before .states .ensures) at (c .below .ensures) in
     (walked-start _ _ _ _ (λ i t x. x .1) low, walked-start _ _ _ _ (λ i t x. x .0) low, s .pre .3)
-
-lowest-requires : tie.Need-lowest-requires Inv-loop μ-loop
-lowest-requires c κs = search needs
 
 entry-requires : tie.Need-entry-requires Inv-loop μ-loop
 entry-requires c κs =
@@ -59,9 +42,6 @@ only-requires c κs =
     let w = c .before .before .before in
     let h = walked-next _ _ _ _ _ _ (w .before .before .loop .inv .0) (w .lowest .ensures) in
     search needs
-
-singleton-requires : tie.Need-singleton-requires Inv-loop μ-loop
-singleton-requires c κs = search needs
 
 sub-rest : tie.Need-sub-rest Inv-loop μ-loop
 sub-rest c = lowest-off _ _ _ (c .before .before .before .before .lowest .ensures) (c .singleton .ensures) .0
@@ -94,16 +74,5 @@ pub steps-back-spec : {M : Type 1} → statement M
 steps-back-spec =
     tie.close
     (tie.spec
-    Inv-loop
-    μ-loop
-    states-requires
-    below-requires
-    loop-holds
-    lowest-requires
-    entry-requires
-    only-requires
-    singleton-requires
-    sub-rest
-    loop-less
-    loop-again
-    returns)
+    Inv-loop μ-loop (λ c κs. search needs) (λ c κs. search needs) loop-holds (λ c κs. search needs) entry-requires only-requires (λ c κs. search needs)
+    sub-rest loop-less loop-again returns)

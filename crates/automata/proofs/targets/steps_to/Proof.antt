@@ -10,14 +10,6 @@ use lib.Bits.{or-lt}
 use borrow.Author.Needs.{needs}
 use Rattle.automata.proofs.targets.steps_to.Statement.{statement}
 use Rattle.automata.proofs.targets.steps_to.Tie as tie
-use Rattle.automata.proofs.targets.steps_to.Reads as reads
-use Rattle.automata.proofs.targets.steps_to.Lts as lts
-use Rattle.automata.proofs.below.Reads as below-reads
-use Rattle.automata.proofs.states.Reads as states-reads
-use Rattle.automata.proofs.targets.asked.Reads as asked-reads
-use Rattle.words.proofs.low_mask.Reads as low-mask-reads
-use Rattle.words.proofs.lowest.Reads as lowest-reads
-use Rattle.words.proofs.singleton.Reads as singleton-reads
 
 abbrev Inv-loop : tie.InvT-loop
 Inv-loop d k symbols tos₀ set q all rest₀ r₀ tos rest r = Walked (stateCount d) set (ByState (machine k d) k set symbols) rest r × Targets (machine k d)
@@ -26,25 +18,10 @@ Inv-loop d k symbols tos₀ set q all rest₀ r₀ tos rest r = Walked (stateCou
 abbrev μ-loop : tie.MeasureT-loop
 μ-loop d k symbols tos₀ set q all rest₀ r₀ tos rest r = rest
 
-states-requires : tie.Need-states-requires Inv-loop μ-loop
-states-requires c κs = search needs
-
-sub-low-mask : tie.Need-sub-low-mask Inv-loop μ-loop
-sub-low-mask c = search needs
-
-low-mask-requires : tie.Need-low-mask-requires Inv-loop μ-loop
-low-mask-requires c κs = search needs
-
-below-requires : tie.Need-below-requires Inv-loop μ-loop
-below-requires c κs = search needs
-
 loop-holds : tie.Need-loop-holds Inv-loop μ-loop
 loop-holds c =
     let s = c .before .before .before .before in
     (walked-start _ _ _ _ (λ i t x. x .0) (rw (c .before .before .states .ensures) at (c .below .ensures)), s .pre .2, omega arith)
-
-lowest-requires : tie.Need-lowest-requires Inv-loop μ-loop
-lowest-requires c κs = search needs
 
 asked-requires : tie.Need-asked-requires Inv-loop μ-loop
 asked-requires c κs =
@@ -67,9 +44,6 @@ returns c =
           (rw (m .before .states .ensures) at (m .low-mask .ensures)) (c .if1 .taken),
       a .asked .ensures .1,
     )
-
-singleton-requires : tie.Need-singleton-requires Inv-loop μ-loop
-singleton-requires c κs = search needs
 
 sub-rest : tie.Need-sub-rest Inv-loop μ-loop
 sub-rest c = lowest-off _ _ _ (c .before .before .before .before .lowest .ensures) (c .singleton .ensures) .0
@@ -98,19 +72,5 @@ pub steps-to-spec : {M : Type 1} → statement M
 steps-to-spec =
     tie.close
     (tie.spec
-    Inv-loop
-    μ-loop
-    states-requires
-    sub-low-mask
-    low-mask-requires
-    below-requires
-    loop-holds
-    lowest-requires
-    asked-requires
-    cast-if1
-    returns
-    singleton-requires
-    sub-rest
-    loop-less
-    loop-again
-    returns-2)
+    Inv-loop μ-loop (λ c κs. search needs) (λ c. search needs) (λ c κs. search needs) (λ c κs. search needs) loop-holds (λ c κs. search needs)
+    asked-requires cast-if1 returns (λ c κs. search needs) sub-rest loop-less loop-again returns-2)

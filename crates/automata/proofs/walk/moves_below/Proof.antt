@@ -5,8 +5,6 @@ use Rattle.automata.proofs.AutomataWalkLaws.{Below, below-none, below-n
 use borrow.Author.Needs.{needs}
 use Rattle.automata.proofs.walk.moves_below.Statement.{statement}
 use Rattle.automata.proofs.walk.moves_below.Tie as tie
-use Rattle.automata.proofs.walk.moves_below.Reads as reads
-use Rattle.automata.proofs.walk.moves_below.Lts as lts
 
 abbrev Inv-loop : tie.InvT-loop
 Inv-loop d n q i₀ i = (i ≤ n) × Below d q i
@@ -17,12 +15,6 @@ abbrev μ-loop : tie.MeasureT-loop
 loop-holds : tie.Need-loop-holds Inv-loop μ-loop
 loop-holds c = (search needs, below-none _ _)
 
-add-if1 : tie.Need-add-if1 Inv-loop μ-loop
-add-if1 c = search needs
-
-shared-slice-read-if1 : tie.Need-shared-slice-read-if1 Inv-loop μ-loop
-shared-slice-read-if1 c = search needs
-
 cast-if1 : tie.Need-cast-if1 Inv-loop μ-loop
 cast-if1 c = omega (arith, c .shared-slice-known .given (5 + c .before .before .loop .i))
 
@@ -30,12 +22,6 @@ returns : tie.Need-returns Inv-loop μ-loop
 returns c =
     let s = c .before .before .before .before in
     sym (one-above (s .args .d .now) (s .args .q) (s .args .n) (s .pre) (c .before .before .before .loop .i) (search needs) (search needs))
-
-add-i : tie.Need-add-i Inv-loop μ-loop
-add-i c = search needs
-
-loop-less : tie.Need-loop-less Inv-loop μ-loop
-loop-less c = search needs
 
 loop-again : tie.Need-loop-again Inv-loop μ-loop
 loop-again c = (search needs, below-next _ _ _ (c .before .before .before .loop .inv .1) (search needs))
@@ -49,14 +35,4 @@ pub moves-below-spec : {M : Type 1} → statement M
 moves-below-spec =
     tie.close
     (tie.spec
-    Inv-loop
-    μ-loop
-    loop-holds
-    add-if1
-    shared-slice-read-if1
-    cast-if1
-    returns
-    add-i
-    loop-less
-    loop-again
-    returns-2)
+    Inv-loop μ-loop loop-holds (λ c. search needs) (λ c. search needs) cast-if1 returns (λ c. search needs) (λ c. search needs) loop-again returns-2)

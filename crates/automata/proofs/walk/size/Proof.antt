@@ -4,12 +4,6 @@ use Rattle.automata.proofs.MachineLaws.{cells-few}
 use borrow.Author.Needs.{needs}
 use Rattle.automata.proofs.walk.size.Statement.{statement}
 use Rattle.automata.proofs.walk.size.Tie as tie
-use Rattle.automata.proofs.walk.size.Reads as reads
-use Rattle.automata.proofs.walk.size.Lts as lts
-use Rattle.automata.proofs.states.Reads as states-reads
-
-states-requires : tie.Need-states-requires
-states-requires c κs = search needs
 
 mul-result : tie.Need-mul-result
 mul-result c =
@@ -25,4 +19,4 @@ returns : tie.Need-returns
 returns c = rw (c .states .ensures) refl
 
 pub size-spec : {M : Type 1} → statement M
-size-spec = tie.close (tie.spec states-requires mul-result add-result returns)
+size-spec = tie.close (tie.spec (λ c κs. search needs) mul-result add-result returns)

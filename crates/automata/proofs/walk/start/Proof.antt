@@ -5,9 +5,6 @@ use Rattle.automata.proofs.AutomataWalkLaws.{Reached, reached-none, len
 use borrow.Author.Needs.{needs}
 use Rattle.automata.proofs.walk.start.Statement.{statement}
 use Rattle.automata.proofs.walk.start.Tie as tie
-use Rattle.automata.proofs.walk.start.Reads as reads
-use Rattle.automata.proofs.walk.start.Lts as lts
-use Rattle.automata.proofs.walk.size.Reads as size-reads
 
 abbrev Inv-loop : tie.InvT-loop
 Inv-loop bytes k i at₀ j₀ at j = (j ≤ i) × Reached k bytes j at
@@ -21,12 +18,6 @@ loop-holds c = (search needs, reached-none _ _)
 sub-size : tie.Need-sub-size Inv-loop μ-loop
 sub-size c = c .before .loop .inv .1 .inside
 
-part-size-start : tie.Need-part-size-start Inv-loop μ-loop
-part-size-start c = search needs
-
-part-size-end : tie.Need-part-size-end Inv-loop μ-loop
-part-size-end c = search needs
-
 size-requires : tie.Need-size-requires Inv-loop μ-loop
 size-requires c κs = (search needs, lent-whole _ _ _ (c .before .before .before .before .pre .1) _ _ (c .before .before .loop .inv .1) (c .before .before .loop .inv .0))
 
@@ -34,12 +25,6 @@ add-at : tie.Need-add-at Inv-loop μ-loop
 add-at c =
     let l = c .before .before .before .loop in
     omega (arith, c .size .ensures, lent-inside _ _ _ (c .before .before .before .before .before .pre .1) _ _ (l .inv .1) (l .inv .0))
-
-add-j : tie.Need-add-j Inv-loop μ-loop
-add-j c = search needs
-
-loop-less : tie.Need-loop-less Inv-loop μ-loop
-loop-less c = search needs
 
 loop-again : tie.Need-loop-again Inv-loop μ-loop
 loop-again c =
@@ -55,15 +40,5 @@ pub start-spec : {M : Type 1} → statement M
 start-spec =
     tie.close
     (tie.spec
-    Inv-loop
-    μ-loop
-    loop-holds
-    sub-size
-    part-size-start
-    part-size-end
-    size-requires
-    add-at
-    add-j
-    loop-less
-    loop-again
+    Inv-loop μ-loop loop-holds sub-size (λ c. search needs) (λ c. search needs) size-requires add-at (λ c. search needs) (λ c. search needs) loop-again
     returns)

@@ -9,18 +9,9 @@ use Rattle.automata.proofs.AutomataWalkLaws.{not-whole, whole-by-moves}
 use borrow.Author.Needs.{needs}
 use Rattle.automata.proofs.walk.whole.Statement.{statement}
 use Rattle.automata.proofs.walk.whole.Tie as tie
-use Rattle.automata.proofs.walk.whole.Reads as reads
-use Rattle.automata.proofs.walk.whole.Lts as lts
-use Rattle.automata.proofs.accepting.Reads as accepting-reads
-use Rattle.automata.proofs.states.Reads as states-reads
-use Rattle.automata.proofs.walk.moves_below.Reads as moves-below-reads
-use Rattle.words.proofs.none_from.Reads as none-from-reads
 
 returns : tie.Need-returns
 returns c = sym (not-whole _ _ (λ w. omega (arith, w .long)))
-
-states-requires : tie.Need-states-requires
-states-requires c κs = search needs
 
 returns-2 : tie.Need-returns-2
 returns-2 c = sym (not-whole _ _ (λ w. omega (arith, w .some-state, c .before .states .ensures)))
@@ -43,22 +34,10 @@ returns-4 c =
     let s = c .before .before .before .before .before .before in
     sym (not-whole _ _ (λ w. omega (arith, w .long, ap (λ (q : ℕ). q * s .args .k) (c .before .before .before .states .ensures))))
 
-accepting-requires : tie.Need-accepting-requires
-accepting-requires c κs = search needs
-
-cast-none-from : tie.Need-cast-none-from
-cast-none-from c = search needs
-
-none-from-requires : tie.Need-none-from-requires
-none-from-requires c κs = search needs
-
 returns-5 : tie.Need-returns-5
 returns-5 c =
     let e = ap₂ noneFrom (c .before .before .before .before .before .before .states .ensures) (c .before .before .accepting .ensures) in
     sym (not-whole _ _ (λ w. false≢true (sym (not-true _ (c .if5 .taken)) ∙ c .before .none-from .ensures ∙ e ∙ w .accepting-known)))
-
-moves-below-requires : tie.Need-moves-below-requires
-moves-below-requires c κs = search needs
 
 returns-6 : tie.Need-returns-6
 returns-6 c =
@@ -71,16 +50,5 @@ pub whole-spec : {M : Type 1} → statement M
 whole-spec =
     tie.close
     (tie.spec
-    returns
-    states-requires
-    returns-2
-    returns-3
-    mul-n
-    add-if4
-    returns-4
-    accepting-requires
-    cast-none-from
-    none-from-requires
-    returns-5
-    moves-below-requires
-    returns-6)
+    returns (λ c κs. search needs) returns-2 returns-3 mul-n add-if4 returns-4 (λ c κs. search needs) (λ c. search needs) (λ c κs. search needs) returns-5
+    (λ c κs. search needs) returns-6)
