@@ -31,7 +31,10 @@ pub fn step(problem: &Problem, relation: Relation, table: &mut [u64], most: u128
     }
 
     let lists: Vec<Vec<Vec<u8>>> = rows.iter().map(all_strings).collect();
-    let mut kept = Kept { rows: vec![EMPTY; rows.len()], number: 0 };
+    let mut kept = Kept {
+        rows: vec![EMPTY; rows.len()],
+        number: 0,
+    };
     for_every_choice(&lists, &mut Vec::new(), &mut |strings| {
         for &value in &values {
             if relation.is_met(strings, value, &problem.automata) {

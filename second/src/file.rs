@@ -67,7 +67,12 @@ impl Problem {
             return Err(8);
         }
 
-        Ok(Problem { header, table, constraints, automata })
+        Ok(Problem {
+            header,
+            table,
+            constraints,
+            automata,
+        })
     }
 
     /// What step j is about: constraint j, or trimming string j − c.
@@ -113,7 +118,10 @@ fn parse_automata(bytes: &[u8], header: &Header) -> Option<Vec<Automaton>> {
         }
         automata.push(Automaton {
             accepting: accepting as u32,
-            next: rows.chunks_exact(header.symbols).map(|r| r.to_vec()).collect(),
+            next: rows
+                .chunks_exact(header.symbols)
+                .map(|r| r.to_vec())
+                .collect(),
         });
         rest = &after[4 + rows_size..];
     }

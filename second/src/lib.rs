@@ -120,11 +120,7 @@ fn checked_table(file: &[u8], table: &[u64]) -> Result<Problem, u8> {
 }
 
 /// Refusals 1 to 11; the problem and what step j is about.
-fn checked_step(
-    file: &[u8],
-    j: u64,
-    table: &[u64],
-) -> Result<(Problem, relations::Relation), u8> {
+fn checked_step(file: &[u8], j: u64, table: &[u64]) -> Result<(Problem, relations::Relation), u8> {
     let problem = checked_table(file, table)?;
     let relation = problem.step_relation(j).ok_or(11)?;
     Ok((problem, relation))

@@ -40,7 +40,10 @@ fn trimmed(x: &Row) -> Row {
 }
 
 fn always(x: &Row) -> Kept {
-    Kept { rows: vec![trimmed(x)], number: 0 }
+    Kept {
+        rows: vec![trimmed(x)],
+        number: 0,
+    }
 }
 
 /// The strings that both rows stand for are again those of a row.
@@ -50,7 +53,10 @@ fn eq(x: &Row, y: &Row) -> Kept {
         both[i] = x[i] & y[i];
     }
     let kept = trimmed(&both);
-    Kept { rows: vec![kept, kept], number: 0 }
+    Kept {
+        rows: vec![kept, kept],
+        number: 0,
+    }
 }
 
 fn neq(x: &Row, y: &Row) -> Kept {
@@ -79,7 +85,10 @@ fn neq(x: &Row, y: &Row) -> Kept {
             }
         }
     }
-    Kept { rows: vec![kept_x, kept_y], number: 0 }
+    Kept {
+        rows: vec![kept_x, kept_y],
+        number: 0,
+    }
 }
 
 /// Keeps the strings of x whose length is not the only one of the others.
@@ -117,7 +126,10 @@ fn rev(x: &Row, y: &Row) -> Kept {
             kept_y[l + 1 - i] |= shared;
         }
     }
-    Kept { rows: vec![kept_x, kept_y], number: 0 }
+    Kept {
+        rows: vec![kept_x, kept_y],
+        number: 0,
+    }
 }
 
 fn cat(x: &Row, y: &Row, z: &Row) -> Kept {
@@ -149,7 +161,10 @@ fn cat(x: &Row, y: &Row, z: &Row) -> Kept {
             }
         }
     }
-    Kept { rows: vec![kept_x, kept_y, kept_z], number: 0 }
+    Kept {
+        rows: vec![kept_x, kept_y, kept_z],
+        number: 0,
+    }
 }
 
 fn sub(x: &Row, y: &Row, numbers: u64) -> Kept {
@@ -182,14 +197,20 @@ fn sub(x: &Row, y: &Row, numbers: u64) -> Kept {
             }
         }
     }
-    Kept { rows: vec![kept_x, kept_y], number: kept_numbers }
+    Kept {
+        rows: vec![kept_x, kept_y],
+        number: kept_numbers,
+    }
 }
 
 fn len(x: &Row, numbers: u64) -> Kept {
     let mut with_these = *x;
     with_these[0] &= numbers;
     let kept = trimmed(&with_these);
-    Kept { rows: vec![kept], number: kept[0] }
+    Kept {
+        rows: vec![kept],
+        number: kept[0],
+    }
 }
 
 fn regular(x: &Row, automaton: &Automaton) -> Kept {
@@ -233,13 +254,15 @@ fn regular(x: &Row, automaton: &Automaton) -> Kept {
     }
     for i in 1..64 {
         for a in bits(x[i]) {
-            let used = (0..states).any(|q| {
-                in_set(reached[i - 1], q) && in_set(ending[i], automaton.follow(q, a))
-            });
+            let used = (0..states)
+                .any(|q| in_set(reached[i - 1], q) && in_set(ending[i], automaton.follow(q, a)));
             if used {
                 kept[i] |= bit(a);
             }
         }
     }
-    Kept { rows: vec![kept], number: 0 }
+    Kept {
+        rows: vec![kept],
+        number: 0,
+    }
 }

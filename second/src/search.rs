@@ -41,7 +41,11 @@ pub fn search(problem: &Problem, budget: u32) -> (Outcome, Option<Vec<u64>>) {
         match state(problem, &node) {
             State::Dead => {}
             State::Solved => return (Outcome::Found(visited), Some(node)),
-            State::Open(word) => branches.push(Branch { left: node[word], word, table: node }),
+            State::Open(word) => branches.push(Branch {
+                left: node[word],
+                word,
+                table: node,
+            }),
         }
         match next_child(&mut branches) {
             Some(child) => node = child,

@@ -9,7 +9,9 @@ use second::Outcome;
 
 /// A subset of 0 to n − 1; the denser the higher `density`, 0 to 4.
 fn subset(random: &mut Random, n: usize, density: usize) -> u64 {
-    (0..n).filter(|_| random.below(4) < density).fold(0, |w, b| w | 1 << b)
+    (0..n)
+        .filter(|_| random.below(4) < density)
+        .fold(0, |w, b| w | 1 << b)
 }
 
 /// A row over k symbols none of whose strings is longer than `longest`.
@@ -164,7 +166,11 @@ fn compare_step(file: &[u8], j: u64, x: usize, lent: &[u64], most: u128, tally: 
     let struck = second::step(file, j, &mut plain).unwrap();
     assert_eq!(plain, tried, "step {j}");
     assert_eq!(struck, wanted);
-    let fewer: u32 = lent.iter().zip(&plain).map(|(b, a)| (b & !a).count_ones()).sum();
+    let fewer: u32 = lent
+        .iter()
+        .zip(&plain)
+        .map(|(b, a)| (b & !a).count_ones())
+        .sum();
     assert!(lent.iter().zip(&plain).all(|(b, a)| a & !b == 0));
     assert_eq!(struck, fewer);
 
@@ -197,13 +203,19 @@ fn small_domains() {
         let mut tally = Tally::default();
         for turn in 0..6000 {
             let k = 1 + random.below(3);
-            let longest = if random.once_in(4) { 4 } else { 1 + random.below(3) };
+            let longest = if random.once_in(4) {
+                4
+            } else {
+                1 + random.below(3)
+            };
             let mut draft = Draft {
                 symbols: k as u8,
                 rows: vec![NOTHING; 3],
                 numbers: vec![0; 2],
                 constraints: vec![],
-                automata: (0..2).map(|_| random_automaton(&mut random, k, 4)).collect(),
+                automata: (0..2)
+                    .map(|_| random_automaton(&mut random, k, 4))
+                    .collect(),
             };
             let record = one_constraint(&mut random, kind, 3);
             draft.constraints.push(record);
@@ -300,7 +312,9 @@ fn long_domains() {
                 rows: vec![NOTHING; 3],
                 numbers: vec![0; 2],
                 constraints: vec![],
-                automata: (0..2).map(|_| random_automaton(&mut random, k, 32)).collect(),
+                automata: (0..2)
+                    .map(|_| random_automaton(&mut random, k, 32))
+                    .collect(),
             };
             let record = one_constraint(&mut random, kind, 3);
             draft.constraints.push(record);
@@ -367,7 +381,9 @@ fn large_domains_bit_by_bit() {
                 rows: vec![NOTHING; 3],
                 numbers: vec![0; 2],
                 constraints: vec![],
-                automata: (0..2).map(|_| random_automaton(&mut random, k, 32)).collect(),
+                automata: (0..2)
+                    .map(|_| random_automaton(&mut random, k, 32))
+                    .collect(),
             };
             let record = one_constraint(&mut random, kind, 3);
             draft.constraints.push(record);
@@ -389,7 +405,11 @@ fn large_domains_bit_by_bit() {
             let width = [0, 2, 2, 2, 3, 2, 1, 1][usize::from(kind)];
             for _ in 0..300 {
                 let x = usize::from(record[1 + random.below(width)]);
-                let i = if random.once_in(4) { 0 } else { 1 + random.below(63) };
+                let i = if random.once_in(4) {
+                    0
+                } else {
+                    1 + random.below(63)
+                };
                 let b = random.below(64);
                 let at = 64 * x + i;
                 if lent[at] >> b & 1 == 0 {
@@ -415,7 +435,9 @@ fn small_problem(random: &mut Random) -> Draft {
     let strings = random.below(5);
     let mut draft = Draft {
         symbols: k as u8,
-        rows: (0..strings).map(|_| small_row(random, k, longest)).collect(),
+        rows: (0..strings)
+            .map(|_| small_row(random, k, longest))
+            .collect(),
         numbers: (0..2).map(|_| small_number(random, longest)).collect(),
         constraints: vec![],
         automata: (0..2).map(|_| random_automaton(random, k, 3)).collect(),
@@ -429,7 +451,9 @@ fn small_problem(random: &mut Random) -> Draft {
     if !kinds.is_empty() {
         for _ in 0..random.below(8) {
             let kind = kinds[random.below(kinds.len())];
-            draft.constraints.push(one_constraint(random, kind, strings));
+            draft
+                .constraints
+                .push(one_constraint(random, kind, strings));
         }
     }
     match random.below(8) {
@@ -462,7 +486,9 @@ fn crowd(random: &mut Random, draft: &mut Draft) {
         }
     }
     let kind = [2, 3, 4, 5, 6, 7][random.below(6)];
-    draft.constraints.push(one_constraint(random, kind, strings));
+    draft
+        .constraints
+        .push(one_constraint(random, kind, strings));
 }
 
 /// Full tables around one choice, and mostly constraints that it meets.
@@ -491,8 +517,10 @@ fn lean_to_a_search(random: &mut Random, draft: &mut Draft, longest: usize) {
         draft.numbers[n] = 1 << numbers[n] | subset(random, longest + 1, 1);
     }
     let problem = Problem::parse(&draft.bytes()).unwrap();
-    let bytes: Vec<Vec<u8>> =
-        chosen.iter().map(|x| x.iter().map(|&a| a as u8).collect()).collect();
+    let bytes: Vec<Vec<u8>> = chosen
+        .iter()
+        .map(|x| x.iter().map(|&a| a as u8).collect())
+        .collect();
     let mut j = 0;
     draft.constraints.retain(|_| {
         let c = problem.constraints[j];
@@ -512,7 +540,9 @@ fn settle_by_enumeration(file: &[u8], lent: &mut [u64]) -> u32 {
         rounds += 1;
         let mut struck = 0;
         for j in (c..c + s).chain(0..c) {
-            struck += second::step_by_enumeration(file, j, lent, u128::MAX).unwrap().unwrap();
+            struck += second::step_by_enumeration(file, j, lent, u128::MAX)
+                .unwrap()
+                .unwrap();
         }
         if struck == 0 {
             return rounds;
@@ -565,7 +595,9 @@ fn whole_tree(
     } else if lent[64 * v].count_ones() > 1 {
         64 * v
     } else {
-        (64 * v + 1..64 * v + 64).find(|&i| lent[i].count_ones() > 1).unwrap()
+        (64 * v + 1..64 * v + 64)
+            .find(|&i| lent[i].count_ones() > 1)
+            .unwrap()
     };
     for value in 0..64 {
         if lent[word] >> value & 1 == 1 {
@@ -588,8 +620,11 @@ fn least_solution(draft: &Draft, file: &[u8]) -> Option<Vec<u64>> {
     let mut at = vec![0; sizes.len()];
     loop {
         let xs: Vec<&[u8]> = strings.iter().zip(&at).map(|(v, &i)| &v[i][..]).collect();
-        let ns: Vec<usize> =
-            numbers.iter().zip(&at[strings.len()..]).map(|(v, &i)| v[i]).collect();
+        let ns: Vec<usize> = numbers
+            .iter()
+            .zip(&at[strings.len()..])
+            .map(|(v, &i)| v[i])
+            .collect();
         let met = problem.constraints.iter().all(|c| {
             let chosen: Vec<&[u8]> = c.strings().iter().map(|&x| xs[x]).collect();
             let n = c.number().map_or(0, |n| ns[n]);
@@ -621,7 +656,11 @@ fn least_solution(draft: &Draft, file: &[u8]) -> Option<Vec<u64>> {
 
 fn choices(draft: &Draft) -> u128 {
     let strings: u128 = draft.rows.iter().map(count_strings).product();
-    let numbers: u128 = draft.numbers.iter().map(|n| u128::from(n.count_ones())).product();
+    let numbers: u128 = draft
+        .numbers
+        .iter()
+        .map(|n| u128::from(n.count_ones()))
+        .product();
     strings * numbers
 }
 

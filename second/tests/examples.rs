@@ -17,7 +17,11 @@ fn step_j_gives(draft: &Draft, j: u64, rows: &[Row], numbers: &[u64]) -> u32 {
     let mut after = before.clone();
     let struck = second::step(&file, j, &mut after).unwrap();
     assert_eq!(after, wanted);
-    let fewer: u32 = before.iter().zip(&after).map(|(b, a)| (b & !a).count_ones()).sum();
+    let fewer: u32 = before
+        .iter()
+        .zip(&after)
+        .map(|(b, a)| (b & !a).count_ones())
+        .sum();
     assert_eq!(struck, fewer);
 
     let mut tried = before.clone();
@@ -40,7 +44,11 @@ fn draft(rows: &[Row], numbers: &[u64], record: [u8; 4]) -> Draft {
 #[test]
 fn p1_trim() {
     let x = row(&[1, 2], &[&[0], &[]]);
-    let problem = Draft { symbols: 4, rows: vec![x], ..Draft::default() };
+    let problem = Draft {
+        symbols: 4,
+        rows: vec![x],
+        ..Draft::default()
+    };
     let struck = step_j_gives(&problem, 0, &[row(&[1], &[&[0]])], &[]);
     assert_eq!(struck, 1);
 }
@@ -57,7 +65,11 @@ fn p2_eq_of_paper_004() {
 fn p3_eq_only_empty() {
     let x = row(&[0, 2], &[&[0], &[1]]);
     let y = row(&[0, 1, 2], &[&[0], &[2]]);
-    step_gives(&draft(&[x, y], &[], [1, 0, 1, 0]), &[just(&[]), just(&[])], &[]);
+    step_gives(
+        &draft(&[x, y], &[], [1, 0, 1, 0]),
+        &[just(&[]), just(&[])],
+        &[],
+    );
 }
 
 #[test]

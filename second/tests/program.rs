@@ -24,7 +24,10 @@ fn p14_listing() {
 #[test]
 fn nothing_to_find() {
     // 24 bytes: no variables, no constraints.
-    let mut draft = Draft { symbols: 1, ..Draft::default() };
+    let mut draft = Draft {
+        symbols: 1,
+        ..Draft::default()
+    };
     assert_eq!(draft.bytes().len(), 24);
     assert_eq!(run(&draft.bytes()), "found 1\n");
     assert_eq!(run(&draft.bytes()[1..]), "refused 1\n");
@@ -49,16 +52,26 @@ fn empty_and_long_strings() {
         ..Draft::default()
     };
     let line = format!("s1 63{}\n", " 63".repeat(63));
-    assert_eq!(run(&draft.bytes()), format!("found 3\ns0 0\n{line}s2 0\nn0 0\nn1 7\n"));
+    assert_eq!(
+        run(&draft.bytes()),
+        format!("found 3\ns0 0\n{line}s2 0\nn0 0\nn1 7\n")
+    );
     // Eq takes the long one over.
     draft.constraints = vec![[1, 1, 2, 0]];
     let other = format!("s2 63{}\n", " 63".repeat(63));
-    assert_eq!(run(&draft.bytes()), format!("found 2\ns0 0\n{line}{other}n0 0\nn1 7\n"));
+    assert_eq!(
+        run(&draft.bytes()),
+        format!("found 2\ns0 0\n{line}{other}n0 0\nn1 7\n")
+    );
 }
 
 #[test]
 fn sixteen_and_seventeen_strings() {
-    let mut draft = Draft { symbols: 1, rows: vec![just(&[0]); 16], ..Draft::default() };
+    let mut draft = Draft {
+        symbols: 1,
+        rows: vec![just(&[0]); 16],
+        ..Draft::default()
+    };
     let lines: String = (0..16).map(|x| format!("s{x} 1 0\n")).collect();
     assert_eq!(run(&draft.bytes()), format!("found 1\n{lines}"));
     draft.rows.push(just(&[0]));
@@ -67,7 +80,11 @@ fn sixteen_and_seventeen_strings() {
 
 #[test]
 fn none_and_spent() {
-    let mut draft = Draft { symbols: 4, rows: vec![NOTHING], ..Draft::default() };
+    let mut draft = Draft {
+        symbols: 4,
+        rows: vec![NOTHING],
+        ..Draft::default()
+    };
     assert_eq!(run(&draft.bytes()), "none 1\n");
     draft.rows = vec![just(&[0]); 2];
     draft.constraints = vec![[2, 0, 1, 0]];
@@ -92,7 +109,11 @@ fn none_and_spent() {
 
 #[test]
 fn refused_records() {
-    let mut draft = Draft { symbols: 2, rows: vec![just(&[0]); 2], ..Draft::default() };
+    let mut draft = Draft {
+        symbols: 2,
+        rows: vec![just(&[0]); 2],
+        ..Draft::default()
+    };
     draft.constraints = vec![[1, 0, 0, 0]];
     assert_eq!(run(&draft.bytes()), "refused 8\n");
     draft.constraints.push([1, 0, 2, 0]);

@@ -33,7 +33,10 @@ fn runs(draft: &Draft) -> Vec<usize> {
 #[test]
 fn the_index_of_p14() {
     // Steps 0 Cat(X, Y, Z), 1 Len(X, N), 2 to 4 the trimmings.
-    assert_eq!(index_of(&p14()), [0b00111, 0, 0b01001, 0, 0b10001, 0, 0b00010, 0]);
+    assert_eq!(
+        index_of(&p14()),
+        [0b00111, 0, 0b01001, 0, 0b10001, 0, 0b00010, 0]
+    );
 }
 
 /// Every kind touches the strings and numbers among its arguments. There are
@@ -79,7 +82,12 @@ fn the_index_without_steps() {
 fn at_the_limits() -> Draft {
     let record = |j: u8| [6, j % 16, j / 16, 0];
     let records: Vec<[u8; 4]> = (0..64).map(record).collect();
-    let mut problem = draft(2, &[row(&[0, 1], &[&[0, 1]]); 16], &[set(&[0, 1]); 4], &records);
+    let mut problem = draft(
+        2,
+        &[row(&[0, 1], &[&[0, 1]]); 16],
+        &[set(&[0, 1]); 4],
+        &records,
+    );
     problem.rows[15] = just(&[]);
     problem
 }
@@ -89,7 +97,10 @@ fn the_index_at_the_limits() {
     let index = index_of(&at_the_limits().bytes());
     assert_eq!(index.len(), 40);
     for x in 0..16 {
-        assert_eq!(index[2 * x..2 * x + 2], [0x0001_0001_0001_0001 << x, 1 << x]);
+        assert_eq!(
+            index[2 * x..2 * x + 2],
+            [0x0001_0001_0001_0001 << x, 1 << x]
+        );
     }
     assert_eq!(index[31], 1 << (79 - 64));
     for n in 0..4 {
@@ -104,7 +115,10 @@ fn the_index_at_the_limits() {
 /// do still wait. What joined last strikes nothing.
 #[test]
 fn the_queue_at_the_limits() {
-    let wanted = (0..80).chain(0..63).chain([64]).chain((1..15).flat_map(|x| [x - 1, 64 + x]));
+    let wanted = (0..80)
+        .chain(0..63)
+        .chain([64])
+        .chain((1..15).flat_map(|x| [x - 1, 64 + x]));
     assert_eq!(runs(&at_the_limits()), Vec::from_iter(wanted));
 }
 
@@ -123,7 +137,10 @@ fn without_constraints() {
 #[test]
 fn no_step_makes_itself_join() {
     let x = row(&[0, 3], &[&[0], &[0], &[0]]);
-    assert_eq!(runs(&draft(4, &[x], &[set(&[1, 3])], &[[6, 0, 0, 0]])), [0, 1]);
+    assert_eq!(
+        runs(&draft(4, &[x], &[set(&[1, 3])], &[[6, 0, 0, 0]])),
+        [0, 1]
+    );
 }
 
 /// P14: Cat strikes while all others wait; Len then strikes, and of the two
@@ -144,7 +161,12 @@ fn what_waits_does_not_join_twice() {
 #[test]
 fn joins_go_to_the_back() {
     let open = row(&[1], &[&[0, 1]]);
-    let problem = draft(2, &[open, open, just(&[0])], &[], &[[1, 0, 1, 0], [1, 1, 2, 0]]);
+    let problem = draft(
+        2,
+        &[open, open, just(&[0])],
+        &[],
+        &[[1, 0, 1, 0], [1, 1, 2, 0]],
+    );
     assert_eq!(runs(&problem), [0, 1, 2, 3, 4, 0, 1, 2, 3]);
 }
 
@@ -163,7 +185,12 @@ fn the_lowest_number_joins_first() {
 #[test]
 fn a_shared_number_makes_join() {
     let open = row(&[0, 1], &[&[0]]);
-    let problem = draft(1, &[open, just(&[])], &[set(&[0, 1])], &[[6, 0, 0, 0], [6, 1, 0, 0]]);
+    let problem = draft(
+        1,
+        &[open, just(&[])],
+        &[set(&[0, 1])],
+        &[[6, 0, 0, 0], [6, 1, 0, 0]],
+    );
     assert_eq!(runs(&problem), [0, 1, 2, 3, 0, 1, 2]);
 }
 
@@ -182,12 +209,20 @@ fn a_shared_automaton_does_not() {
 #[test]
 fn it_goes_on_without_a_value() {
     let open = row(&[1], &[&[0, 1]]);
-    let problem = draft(2, &[open, just(&[0]), just(&[1])], &[], &[[1, 0, 1, 0], [1, 0, 2, 0]]);
+    let problem = draft(
+        2,
+        &[open, just(&[0]), just(&[1])],
+        &[],
+        &[[1, 0, 1, 0], [1, 0, 2, 0]],
+    );
     // By the first A is "0"; by the second A and C are nothing; then B is too.
     assert_eq!(runs(&problem), [0, 1, 2, 3, 4, 0, 1, 2, 3]);
     let mut lent = problem.table();
     let file = problem.bytes();
-    assert_eq!(second::settle_by_index(&file, &index_of(&file), &mut lent), Ok((9, false)));
+    assert_eq!(
+        second::settle_by_index(&file, &index_of(&file), &mut lent),
+        Ok((9, false))
+    );
     assert_eq!(lent, table(&[NOTHING; 3], &[]));
 }
 
@@ -197,10 +232,16 @@ fn refused(file: &[u8], index: &[u64], number: u8) {
     let mut table = vec![0; header.words()];
     second::unpack(file, &mut table).unwrap();
     let before = table.clone();
-    assert_eq!(second::settle_by_index(file, index, &mut table), Err(number));
+    assert_eq!(
+        second::settle_by_index(file, index, &mut table),
+        Err(number)
+    );
     assert_eq!(table, before);
     let mut lent = index.to_vec();
-    assert_eq!(second::index(file, &mut lent).err(), (number == 18).then_some(18));
+    assert_eq!(
+        second::index(file, &mut lent).err(),
+        (number == 18).then_some(18)
+    );
     assert_eq!(lent == index, number == 18);
 }
 
@@ -219,7 +260,10 @@ fn refusal_18() {
     }
     // Where there is no variable, nothing is the index.
     let nothing = draft(1, &[], &[], &[]).bytes();
-    assert_eq!(second::settle_by_index(&nothing, &[], &mut []), Ok((0, true)));
+    assert_eq!(
+        second::settle_by_index(&nothing, &[], &mut []),
+        Ok((0, true))
+    );
     refused(&nothing, &[0], 18);
     refused(&nothing, &[0, 0], 18);
 }
@@ -288,15 +332,25 @@ fn any_problem(random: &mut Random) -> Draft {
     for _ in 0..strings {
         let lengths = 1 + random.below(15) as u64;
         let mut row = [0; 64];
-        row[0] = if random.once_in(9) { random.word() } else { lengths };
-        row[1..4].iter_mut().for_each(|word| *word = 1 + random.below(3) as u64);
+        row[0] = if random.once_in(9) {
+            random.word()
+        } else {
+            lengths
+        };
+        row[1..4]
+            .iter_mut()
+            .for_each(|word| *word = 1 + random.below(3) as u64);
         problem.rows.push(row);
     }
     problem.numbers = (0..numbers).map(|_| random.word() & 31).collect();
     problem.automata = vec![automaton(0b01, &[&[1, 0], &[0, 1]])];
     while strings > 2 && numbers > 0 && problem.constraints.len() < constraints {
         let kind = [1, 2, 2, 3, 4, 5, 6, 7][random.below(8)];
-        let (x, y, z) = (random.below(strings), random.below(strings), random.below(strings));
+        let (x, y, z) = (
+            random.below(strings),
+            random.below(strings),
+            random.below(strings),
+        );
         let n = random.below(numbers) as u8;
         if x == y || y == z || x == z {
             continue;
@@ -327,7 +381,11 @@ fn as_the_rounds() {
         let run = runs_on(&file, &lent);
         let mut after = lent.clone();
         let (rounds, every_value) = second::settle(&file, &mut after).unwrap();
-        let struck: u32 = lent.iter().zip(&after).map(|(b, a)| (b & !a).count_ones()).sum();
+        let struck: u32 = lent
+            .iter()
+            .zip(&after)
+            .map(|(b, a)| (b & !a).count_ones())
+            .sum();
         let struck = struck as usize;
         assert!(steps <= run.len() && run.len() <= steps * (struck + 1));
         again += usize::from(run.len() > steps);
@@ -336,5 +394,8 @@ fn as_the_rounds() {
         // On what is left every step runs once.
         assert_eq!(runs_on(&file, &after), Vec::from_iter(0..steps));
     }
-    assert!(again > 1000 && dead > 500 && fewer > 1000, "{again}, {dead}, {fewer}");
+    assert!(
+        again > 1000 && dead > 500 && fewer > 1000,
+        "{again}, {dead}, {fewer}"
+    );
 }

@@ -25,7 +25,10 @@ fn all_refuse(file: &[u8], number: u8) {
     assert_eq!(second::unpack(file, &mut lent), Err(number));
     assert_eq!(second::step(file, 0, &mut lent), Err(number));
     assert_eq!(second::settle(file, &mut lent), Err(number));
-    assert_eq!(second::settle_by_index(file, &[1; 6], &mut lent), Err(number));
+    assert_eq!(
+        second::settle_by_index(file, &[1; 6], &mut lent),
+        Err(number)
+    );
     let mut index = vec![1; 6];
     assert_eq!(second::index(file, &mut index), Err(number));
     assert_eq!(index, vec![1; 6]);
@@ -37,7 +40,13 @@ fn all_refuse(file: &[u8], number: u8) {
 
 #[test]
 fn the_good_file_is_read() {
-    let header = Header { symbols: 3, strings: 2, numbers: 1, automata: 1, constraints: 2 };
+    let header = Header {
+        symbols: 3,
+        strings: 2,
+        numbers: 1,
+        automata: 1,
+        constraints: 2,
+    };
     let file = good().bytes();
     assert_eq!(file.len(), TRAILER + 24);
     assert_eq!(second::read(&file), Ok(header));
@@ -71,7 +80,17 @@ fn refusal_2() {
 #[test]
 fn refusal_3() {
     let file = good().bytes();
-    let wrong = [(0, 0), (0, 65), (1, 17), (2, 17), (3, 9), (4, 65), (5, 1), (6, 1), (7, 1)];
+    let wrong = [
+        (0, 0),
+        (0, 65),
+        (1, 17),
+        (2, 17),
+        (3, 9),
+        (4, 65),
+        (5, 1),
+        (6, 1),
+        (7, 1),
+    ];
     for (at, value) in wrong {
         let mut broken = file.clone();
         broken[TRAILER + at] = value;
@@ -109,7 +128,12 @@ fn refusal_4() {
 fn refusal_4_past_32_bits() {
     // All three equations hold modulo 2^32, none or not all exactly.
     let file = good().bytes();
-    for automata in [u32::MAX, u32::MAX - 8, 0u32.wrapping_sub(8), 0u32.wrapping_sub(1040)] {
+    for automata in [
+        u32::MAX,
+        u32::MAX - 8,
+        0u32.wrapping_sub(8),
+        0u32.wrapping_sub(1040),
+    ] {
         let constraints = automata.wrapping_add(8);
         let table = constraints.wrapping_add(1032);
         let mut broken = file.clone();
@@ -143,7 +167,7 @@ fn refusal_5() {
     all_refuse(&with(&[&[2, 1, 0, 0, 0, 0, 1, 0, 1, 1]]), 5); // cut in the rows
     all_refuse(&with(&[&[2, 1, 0, 0, 0, 0, 1, 0, 1, 1, 0, 0]]), 5); // a spare byte
     all_refuse(&with(&[fine, &[1, 0, 0, 0, 0, 0, 0]]), 5); // second cut
-    // 32 and 33 states.
+                                                           // 32 and 33 states.
     let mut many = vec![32, 0xff, 0xff, 0xff, 0xff];
     many.extend([31; 96]);
     assert!(second::read(&with(&[&many])).is_ok());
@@ -239,7 +263,13 @@ fn refusal_7() {
 fn refusal_8() {
     let mut three = good();
     three.rows.push(NOTHING);
-    for record in [[4, 0, 1, 2], [4, 2, 1, 0], [5, 2, 0, 0], [6, 0, 0, 0], [7, 0, 0, 0]] {
+    for record in [
+        [4, 0, 1, 2],
+        [4, 2, 1, 0],
+        [5, 2, 0, 0],
+        [6, 0, 0, 0],
+        [7, 0, 0, 0],
+    ] {
         three.constraints[0] = record;
         assert!(second::read(&three.bytes()).is_ok());
     }
@@ -328,15 +358,27 @@ fn settles_by_index(file: &[u8], lent: &[u64], (length, bit): (usize, u64), befo
     index.resize(length, 0);
     index[5] ^= bit << 63;
     let mut table = lent.to_vec();
-    let wanted = before.or((length != 6).then_some(18)).or((bit != 0).then_some(19));
-    assert_eq!(second::settle_by_index(file, &index, &mut table).err(), wanted);
+    let wanted = before
+        .or((length != 6).then_some(18))
+        .or((bit != 0).then_some(19));
+    assert_eq!(
+        second::settle_by_index(file, &index, &mut table).err(),
+        wanted
+    );
     assert!(wanted.is_none() || table == lent);
     // Building it refuses by the file, then by the length alone.
     let to_8 = before.filter(|&number| number <= 8);
     let wanted = to_8.or((length != 6).then_some(18));
     let was = index.clone();
     assert_eq!(second::index(file, &mut index).err(), wanted);
-    assert_eq!(index, if wanted.is_some() { was } else { INDEX.to_vec() });
+    assert_eq!(
+        index,
+        if wanted.is_some() {
+            was
+        } else {
+            INDEX.to_vec()
+        }
+    );
 }
 
 /// Every set of refusals that apply at once: the first must win.
@@ -404,7 +446,10 @@ fn the_first_that_applies() {
             settles_by_index(&file, &lent_before, index, to_8.or(first(&[9, 10])));
         }
         let wanted = to_8.or(first(&[12, 13]));
-        assert_eq!(second::search(&file, 3, &mut room, &mut answer).err(), wanted);
+        assert_eq!(
+            second::search(&file, 3, &mut room, &mut answer).err(),
+            wanted
+        );
         if wanted.is_some() {
             assert_eq!((room, answer), (room_before, answer_before));
         }
@@ -449,7 +494,10 @@ fn no_panic() {
         assert_eq!(second::settle(&file, &mut lent).err(), read.err());
         let mut index = vec![0; read.map_or(6, |h| 2 * (h.strings + h.numbers))];
         assert_eq!(second::index(&file, &mut index).err(), read.err());
-        assert_eq!(second::settle_by_index(&file, &index, &mut lent).err(), read.err());
+        assert_eq!(
+            second::settle_by_index(&file, &index, &mut lent).err(),
+            read.err()
+        );
         let mut room = vec![0; 3 * words];
         let searched = second::search(&file, 20, &mut room, &mut lent);
         assert_eq!(searched.err(), read.err());

@@ -69,7 +69,10 @@ fn neq_strikes_only_against_one_string() {
     // Against one string, untidy or not.
     let untidy = row(&[1, 3], &[&[0], &[], &[1]]);
     let problem = draft(2, &[two, untidy], &[], &[[2, 0, 1, 0]]);
-    assert_eq!(after_step(&problem), (3, table(&[just(&[1]), just(&[0])], &[])));
+    assert_eq!(
+        after_step(&problem),
+        (3, table(&[just(&[1]), just(&[0])], &[]))
+    );
 
     // Two free places: each symbol still has a use.
     let four = row(&[2], &[&[0, 1], &[0, 1]]);
@@ -79,7 +82,10 @@ fn neq_strikes_only_against_one_string() {
     // The symbol struck at one length is kept by another.
     let x = row(&[1, 2], &[&[0], &[1]]);
     let problem = draft(2, &[x, just(&[0])], &[], &[[2, 0, 1, 0]]);
-    assert_eq!(after_step(&problem), (1, table(&[just(&[0, 1]), just(&[0])], &[])));
+    assert_eq!(
+        after_step(&problem),
+        (1, table(&[just(&[0, 1]), just(&[0])], &[]))
+    );
 
     // Against nothing.
     let problem = draft(2, &[two, row(&[2], &[&[0]])], &[], &[[2, 0, 1, 0]]);
@@ -107,14 +113,20 @@ fn sub_of_an_empty_part() {
     empty_part_gives(empty, set(&[0, 1]), 1, empty, set(&[1]));
     empty_part_gives(empty, u64::MAX, 63, empty, set(&[1]));
     for n in [set(&[0]), set(&[2]), !set(&[1])] {
-        assert_eq!(after_step(&empty_part(empty, n)).1, table(&[NOTHING, NOTHING], &[0]));
+        assert_eq!(
+            after_step(&empty_part(empty, n)).1,
+            table(&[NOTHING, NOTHING], &[0])
+        );
     }
 
     // One past the last symbol, and not after it.
     let two = just(&[0, 1]);
     empty_part_gives(two, u64::MAX, 61, two, set(&[1, 2, 3]));
     empty_part_gives(two, set(&[3]), 0, two, set(&[3]));
-    assert_eq!(after_step(&empty_part(two, set(&[0, 4]))).1, table(&[NOTHING, NOTHING], &[0]));
+    assert_eq!(
+        after_step(&empty_part(two, set(&[0, 4]))).1,
+        table(&[NOTHING, NOTHING], &[0])
+    );
 
     // The longest X with a place past it, and the X that has none.
     let [nearly, longest] = [62, 63].map(|length| just(&vec![1; length]));
@@ -122,7 +134,10 @@ fn sub_of_an_empty_part() {
     empty_part_gives(nearly, u64::MAX, 1, nearly, !set(&[0]));
     empty_part_gives(longest, set(&[63]), 0, longest, set(&[63]));
     empty_part_gives(longest, u64::MAX, 1, longest, !set(&[0]));
-    assert_eq!(after_step(&empty_part(longest, set(&[0]))).1, table(&[NOTHING, NOTHING], &[0]));
+    assert_eq!(
+        after_step(&empty_part(longest, set(&[0]))).1,
+        table(&[NOTHING, NOTHING], &[0])
+    );
 }
 
 #[test]
@@ -139,7 +154,10 @@ fn sub_keeps_what_an_empty_part_needs() {
     let two = just(&[0, 1]);
     let y = row(&[0, 1], &[&[1]]);
     let problem = draft(2, &[two, y], &[set(&[3])], &[[5, 0, 1, 0]]);
-    assert_eq!(after_step(&problem), (2, table(&[two, just(&[])], &[set(&[3])])));
+    assert_eq!(
+        after_step(&problem),
+        (2, table(&[two, just(&[])], &[set(&[3])]))
+    );
     let problem = draft(2, &[two, y], &[set(&[2, 3])], &[[5, 0, 1, 0]]);
     assert_eq!(after_step(&problem), (0, problem.table()));
 }
@@ -156,7 +174,10 @@ fn sub_edges() {
     x[0] = set(&[63]);
     let y = row(&[1, 2], &[&[0], &[0]]);
     let problem = draft(1, &[x, y], &[set(&[63])], &[[5, 0, 1, 0]]);
-    assert_eq!(after_step(&problem), (2, table(&[x, just(&[0])], &[set(&[63])])));
+    assert_eq!(
+        after_step(&problem),
+        (2, table(&[x, just(&[0])], &[set(&[63])]))
+    );
     let problem = draft(1, &[x, just(&[])], &[set(&[63])], &[[5, 0, 1, 0]]);
     assert_eq!(after_step(&problem), (0, problem.table()));
 
@@ -189,7 +210,10 @@ fn settle_goes_on_after_an_empty_domain() {
 
 #[test]
 fn settle_counts_rounds() {
-    let nothing = Draft { symbols: 1, ..Draft::default() };
+    let nothing = Draft {
+        symbols: 1,
+        ..Draft::default()
+    };
     assert_eq!(settled(&nothing), (1, true, vec![]));
 
     let problem = draft(2, &[just(&[0])], &[set(&[1])], &[[6, 0, 0, 0]]);
