@@ -9,7 +9,7 @@ import sys
 from promises import ROOT, edits
 
 WIDTH = 156  # of a line of the list
-NAME = r"[\w-]+"
+NAME = r"[\w′-]+"
 NEED = re.compile(rf"({NAME}) : tie\.Need-{NAME}(?: (?:Inv|μ)-{NAME})*")
 FOUND = re.compile(rf"{NAME} (c(?: κs)?) = search needs")
 CITED_FOR_GOALS = re.compile(rf"use \S+\.(?:Reads|Lts) as ({NAME})")

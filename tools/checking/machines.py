@@ -68,9 +68,9 @@ def minimal(machine):
 
 def paired(first, second, accepts):
     """Both machines at once; whether a pair of states accepts is said from whether each of them does."""
-    states = lambda pair: accepts(first.accepting >> pair[0] & 1, second.accepting >> pair[1] & 1)
+    accepting = lambda pair: accepts(first.accepting >> pair[0] & 1, second.accepting >> pair[1] & 1)
     step = lambda pair, symbol: (first.moves[pair[0]][symbol], second.moves[pair[1]][symbol])
-    return minimal(numbered((0, 0), states, step, kinds(columns(first, second))))
+    return minimal(numbered((0, 0), accepting, step, kinds(columns(first, second))))
 
 
 def product(first, second):

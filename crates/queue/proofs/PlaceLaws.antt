@@ -11,14 +11,12 @@ use lib.ListN.{length, getD, take, drop}
 use lib.Pow.{pow-lt}
 use borrow.Author.Tests.{eqb-true, eq-eqb, ne-eqb, ltb-true, ltb-false, lt-ltb, le-ltb}
 use Rattle.model.specs.Words.{bit, bits, word, union}
-use Rattle.model.specs.Domains.{str}
 use Rattle.model.specs.Constraints.{Problem, Constraint, always, variables}
 use Rattle.model.specs.Solutions.{WellFormed}
 use Rattle.model.specs.Layout.{part}
 use Rattle.model.specs.Reading.{decode}
 use Rattle.model.specs.Operations.{stepAt, stepCount}
 use Rattle.model.specs.StepIndex.{indexOf}
-use Rattle.model.specs.Queue.{joining}
 use Rattle.laws.specs.Inclusion.{In}
 use Rattle.laws.specs.Line.{waits}
 use Rattle.laws.proofs.WordLaws.{bool-ext, pow-bit, and-yes, zero-bit, zero-bits}

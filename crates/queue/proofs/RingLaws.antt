@@ -10,7 +10,7 @@ use lib.ListN.{length, getD, set, length-set, length-append}
 use lib.Seq.{getD-set-same, getD-set-other}
 use borrow.Author.Tests.{eqb-true, eqb-false}
 use Rattle.model.specs.Lists.{from, upto}
-use Rattle.model.specs.Words.{bit, bits}
+use Rattle.model.specs.Words.{bits}
 use Rattle.laws.proofs.BitsLaws.{bits-lowest}
 use Rattle.laws.proofs.WordLaws.{zero-bits}
 use Rattle.laws.proofs.TableLaws.{bits-most}

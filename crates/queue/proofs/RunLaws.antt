@@ -14,7 +14,7 @@ use Rattle.model.specs.Constraints.{Problem, width}
 use Rattle.model.specs.Support.{narrowed, struck}
 use Rattle.model.specs.Operations.{stepAt, stepCount}
 use Rattle.model.specs.Queue.{waitingAfter, Ran, running, queueing}
-use Rattle.laws.specs.Inclusion.{In, Below}
+use Rattle.laws.specs.Inclusion.{Below}
 use Rattle.laws.specs.Lent.{lendable}
 use Rattle.laws.specs.Line.{waits, Line}
 use Rattle.laws.proofs.ListLaws.{in-upto, of-upto}

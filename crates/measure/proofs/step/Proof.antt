@@ -2,11 +2,6 @@ use Rattle.measure.proofs.StepLaws.{asked-two, asked-cat, asked-sub, as
 use borrow.Author.Needs.{needs}
 use Rattle.measure.proofs.step.Statement.{statement}
 use Rattle.measure.proofs.step.Tie as tie
-use Rattle.eq.proofs.narrow.Reads as narrow-reads′
-use Rattle.len.proofs.narrow.Reads as narrow-reads′′
-use Rattle.neq.proofs.narrow.Reads as narrow-reads′′′
-use Rattle.rev.proofs.narrow.Reads as narrow-reads′′′′
-use Rattle.sub.proofs.narrow.Reads as narrow-reads′′′′′
 
 narrow-requires : tie.Need-narrow-requires
 narrow-requires c κs = asked-two (c .before .before .before .pre)

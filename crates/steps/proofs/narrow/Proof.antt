@@ -2,11 +2,6 @@ use Rattle.steps.proofs.KindLaws.{eq-asks, eq-narrows, neq-asks, neq-na
 use borrow.Author.Needs.{needs}
 use Rattle.steps.proofs.narrow.Statement.{statement}
 use Rattle.steps.proofs.narrow.Tie as tie
-use Rattle.eq.proofs.narrow.Reads as narrow-reads′
-use Rattle.len.proofs.narrow.Reads as narrow-reads′′
-use Rattle.neq.proofs.narrow.Reads as narrow-reads′′′
-use Rattle.rev.proofs.narrow.Reads as narrow-reads′′′′
-use Rattle.sub.proofs.narrow.Reads as narrow-reads′′′′′
 
 narrow-requires : tie.Need-narrow-requires
 narrow-requires c κs =
