@@ -14,7 +14,8 @@
  *    2  file    it does not end in the bytes TAIL
  *    3  file    a count is out of range (k 1 to 64, s and t 0 to 16, automata 0 to 8, constraints 0 to 64), or bytes 6 and 7 of the trailer are not 0
  *    4  file    its parts do not lie one behind the other, as the distances in the trailer must say
- *    5  file    its automata are not exactly as many as it counts, each with 1 to 32 states, its accepting ones and the end of every move among them
+ *    5  file    its automata are not exactly as many as it counts, each with 1 to 32 states, its accepting ones among them, and every next state one of them, or
+ *               255 for no move
  *    6  file    a symbol word of its table has a bit at k or above
  *    7  file    a constraint has a kind outside 1 to 7, an argument that names nothing, or an unused one that is not 0
  *    8  file    a constraint names one string twice
@@ -34,7 +35,7 @@
  * it has as many elements as the count says, and no memory that an entry writes overlaps other memory that it is given. Given that, every call ends and
  * touches nothing else; no entry keeps a pointer, allocates, or has state of its own, so calls on separate buffers may run at once.
  *
- * Stack. Perform goes deepest: 24,832 bytes below its caller, measured on problems at every limit (bench/stack.py); one Regular constraint on a string of 63
+ * Stack. Perform goes deepest: 24,384 bytes below its caller, measured on problems at every limit (bench/stack.py); one Regular constraint on a string of 63
  * symbols is enough for that. Settle and Search take nearly as much, Step some 4,000 less, and Compile 14,944 on 63 letters side by side. A thread that calls
  * them should have COBLESKEG_STACK bytes of stack, or more where the caller itself needs much.
  */
@@ -69,6 +70,9 @@ extern "C" {
 #define COBLESKEG_LARGEST_FILE 25024
 #define COBLESKEG_LARGEST_TABLE 1040
 #define COBLESKEG_LARGEST_INDEX 64
+
+/* In the place of a next state of an automaton: there is no move, and a string that comes there is rejected. */
+#define COBLESKEG_GAP 255
 
 /* The longest text of a pattern, and the largest automaton, in bytes. */
 #define COBLESKEG_LONGEST_PATTERN 63

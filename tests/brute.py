@@ -44,7 +44,7 @@ WHOLE = [Mode("with all rewritings"), Mode("with no rewriting", tuple(sets.REWRI
 ALONE = [Mode(f"without {rewriting}", (rewriting,)) for rewriting in sets.REWRITINGS]
 NARROW = [Mode("with 11 strings", strings=11, pieces=1), Mode("with 4 nodes", budget=4)]  # small sets would fit and be answered otherwise
 MODES = [*WHOLE, *ALONE, *NARROW]
-KINDS = ("pair", "twice", "same", "rule", "counter", "part named twice", "empty text")
+KINDS = ("pair", "twice", "same", "rule", "gap", "counter", "part named twice", "empty text")
 
 PLAIN, ODD = "ab-01", 'éж本 #,"\\./_|*('
 DIGITS = ("01", "012", "019", "0189", digits)  # with a 9 a counter can grow by a digit: 9..10, 99..101
@@ -56,6 +56,7 @@ TITLES = ("video", "audio", "captions")
 RULES = ("public", "short", "plain_path", "dashed", "r5")
 COMMENTS = ("", "", "", "", "  ", "  # by hand", '# an open " obeys nothing')
 
+CHAIN = "".join(f"  state q{i} a to q{i + 1}\n" for i in range(31)) + "  accepting q31\n"  # 31 letters a
 NINETIES, HUNDREDS = {"95", "96", "97", "98", "99"}, {"100", "101", "102", "103"}
 # (what it is there for; the set; for each pair, and then for each template with itself, all names by which it clashes)
 BY_HAND = [
@@ -153,6 +154,24 @@ BY_HAND = [
         [{"aa"}, set(), set()],
     ),
     (
+        "an automaton that lists its moves alone: what a gap rejects stays rejected, whatever follows",
+        "alphabet a b -\nautomaton dashed\n  state start a to word\n  accepting word a to word, - to behind\n  state behind b to end\n  accepting end\n"
+        'part x 0..4 of any obeys dashed\npart y 1..2 of any\ntemplate s = x\ntemplate t = y "b"\ntemplate u = "a" y obeys dashed\ntemplate v = "b" x',
+        [{"a-b"}, {"aa", "aaa", "a-b"}, set(), {"a-b"}] + [set()] * 6,
+    ),
+    (
+        "automata without any move: the empty text alone, and no text",
+        "alphabet a b\nautomaton nothing\n  accepting end\nautomaton never\n  state q\n  accepting r\npart x 0..2 of any obeys nothing\n"
+        'part y 0..2 of any obeys never\ntemplate s = x "a"\ntemplate t = "a"\ntemplate u = y "a"\ntemplate v = x x obeys nothing',
+        [{"a"}] + [set()] * 9,
+    ),
+    (
+        "32 states and gaps, by moves and as a counter",
+        f"alphabet a 0..9\nautomaton long\n{CHAIN}part x 30..32 of a obeys long\npart y 31 of a\npart z 0..1 of a\npart n {'1'.zfill(16)}..{'9' * 16}\n"
+        f'template s = x\ntemplate t = y z\ntemplate u = n\ntemplate v = "{"0" * 16}"\ntemplate w = "{"1".zfill(16)}"',
+        [{"a" * 31}] + [set()] * 6 + [set(), {"1".zfill(16)}, set()] + [set()] * 5,
+    ),
+    (
         "two rules that no narrowing brings together: only a search, or halves of a letter, show that a name begins with b",
         "alphabet a b\npart x 4 of a b obeys alike\npart y 4 of a b\nrule alike a(a|b)*a|b(a|b)*b\nrule later a(a|b)*b|b(a|b)*\n"
         "template s = x obeys later\ntemplate t = y",
@@ -170,6 +189,7 @@ BY_HAND = [
 class Rule(NamedTuple):
     lines: str  # its statement
     accepts: Callable
+    gaps: bool = False  # whether some letter has no move from some state
 
 
 class Part(NamedTuple):
@@ -371,25 +391,28 @@ def any_pattern(rng, name, alphabet, text):
 
 
 def any_automaton(rng, name, alphabet, text):
-    """A rule by moves, mostly one that accepts this text."""
+    """A rule by moves, half of them with gaps, mostly one that accepts this text."""
     states = rng.sample(("start", "more", "no"), rng.randint(1, 3))
-    moves = {state: {letter: rng.choice(states) for letter in alphabet} for state in states}
+    share = rng.choice((0, rng.choice((0.2, 0.5))))  # of the moves that are gaps
+    moves = {state: {letter: rng.choice(states) for letter in alphabet if rng.random() >= share} for state in states}
 
     def end(asked):
+        """The state behind a text; None where it comes to a gap."""
         state = states[0]
         for letter in asked:
-            state = moves[state][letter]
+            state = moves[state].get(letter) if state else None
         return state
 
-    accepting = {state for state in states if rng.random() < 0.4} | ({end(text)} if rng.random() < 0.9 else set())
+    accepting = {state for state in states if rng.random() < 0.4} | ({end(text)} - {None} if rng.random() < 0.9 else set())
     lines = [f"automaton {name}"]
     for state in states:
         goals = list(dict.fromkeys(moves[state].values()))
-        words = [[*spelled(rng, "".join(letter for letter in alphabet if moves[state][letter] == goal)), "to", goal] for goal in goals]
-        if rng.random() < 0.6:
+        words = [[*spelled(rng, "".join(letter for letter, target in moves[state].items() if target == goal)), "to", goal] for goal in goals]
+        if len(moves[state]) == len(alphabet) and rng.random() < 0.6:
             words[-1][:-2] = ["other"] if len(goals) > 1 else ["any"]
         lines.append(spaced(rng, "  accepting" if state in accepting else "  state", state, ", ".join(spaced(rng, *move) for move in words)))
-    return Rule("\n".join(lines), lambda asked: end(asked) in accepting)
+    gaps = any(len(row) < len(alphabet) for row in moves.values())
+    return Rule("\n".join(lines), lambda asked: end(asked) in accepting, gaps)
 
 
 def any_rules(rng, rules, alphabet, text, often):
@@ -400,7 +423,7 @@ def any_rules(rng, rules, alphabet, text, often):
         if len(rules) < len(RULES) and (not known or rng.random() < 0.7):
             known = [RULES[len(rules)]]
             for _ in range(rng.randint(1, 4)):
-                rules[known[0]] = (any_automaton if rng.random() < 0.2 else any_pattern)(rng, known[0], alphabet, text)
+                rules[known[0]] = (any_automaton if rng.random() < 0.3 else any_pattern)(rng, known[0], alphabet, text)
                 if rules[known[0]].accepts(text):
                     break
         names += rng.sample(known, min(len(known), 1))
@@ -521,11 +544,13 @@ def kinds(given, first, second):
     """What a question is counted as."""
     sides = [given.templates[first], given.templates[second]]
     parts = {part for side in sides for part in side.named()}
+    rules = {rule for ruled in [*sides, *(given.parts[part] for part in parts)] for rule in ruled.rules}
     held = (
         first != second,
         first == second,
         agreeing(given, first, second),
-        any(ruled.rules for ruled in [*sides, *(given.parts[part] for part in parts)]),
+        rules,
+        any(given.rules[rule].gaps for rule in rules),
         any(given.parts[part].counter for part in parts),
         any(len(side.named()) < sum(piece.part is not None for piece in side.pieces) for side in sides),
         any("" in texts_of(given, part) for part in parts),

@@ -145,10 +145,10 @@ LINES = [
         "automaton m\n" + "".join(f"state q{i} any to q0\n" for i in range(32)) + "state ^q32 any to q0",
         "state 'q32' of 'm' is one too many: expected 32 at most",
     ),
-    ("automaton m\nstate q^", f"expected letters, {END}"),
+    ("automaton m\nstate q a to q,^", f"expected letters, {END}"),
     ("automaton m\nstate q any ^q", "expected 'to' and a state, found 'q'"),
     ("automaton m\nstate q any to^", f"expected the name of a state, {END}"),
-    ("automaton m\nstate q a to ^q", "state 'q' has no move for b c 0..2 -: expected one for each letter, or 'other to STATE' at the end"),
+    ("automaton m\nstate q a to q\nstate r\naccepting s b to q, c to ^t", "no state of 'm' is called 't' (declared: q, r, s)"),
     ("automaton m\nstate q other to q^, a to q", "expected the end of the line, found ','"),
     ("automaton m\nstate q a to q, other to ^r", "no state of 'm' is called 'r' (declared: q)"),
 ]
@@ -169,10 +169,10 @@ TEXTS = [
     ('alphabet a..z A..Z 0..9 - " " ^/', "the alphabet has 65 letters: expected 64 at most"),
     ("^alphabet a b\npart x 1 of a\n", "there is no template: expected 'template', its name, '=' and pieces"),
     ('alphabet a..z A..Z 0..9 - " "\nrule r M*^N\ntemplate t = "a"', f"'N' is letter 40 of the alphabet, and no pattern can name it: {IN_FIRST}"),
-    # 16 digits that are not all 0: a state for each number of digits that are all 0 so far, one for each with another digit, and one without a way out
+    # 17 digits that are not all 0: a state for each number of digits, 0 to 16, that are all 0 so far, and one for each number, 1 to 17, with another among them
     (
-        f"alphabet 0..9\npart x ^{'0' * 15}1..{'9' * 16}\ntemplate t = x",
-        "the counter needs 33 states, and an automaton has 32 at most: expected fewer digits",
+        f"alphabet 0..9\npart x ^{'0' * 16}1..{'9' * 17}\ntemplate t = x",
+        "the counter needs 34 states, and an automaton has 32 at most: expected fewer digits",
     ),
     ("alphabet a\n# \n  part x 1 of ^\udcff\n", "a byte is not UTF-8: expected plain text"),
     # columns are counted in characters, whatever the ends of lines, the mark of an encoding and a comment's quotes

@@ -44,6 +44,15 @@ DOUBTS = [
         [(3, "automaton 'd' accepts nothing: no accepting state can be reached from 'q'")],
     ),
     ("alphabet a b\nstring x\nautomaton d\nstate q any to r\nstate r a to q, b to end\naccepting end any to q\nregular x d", []),
+    # no move leads from `q` to `end`
+    (
+        "alphabet a b\nstring x\nautomaton d\nstate q a to r\nstate r b to q\naccepting end any to q\nregular x d",
+        [(3, "automaton 'd' accepts nothing: no accepting state can be reached from 'q'")],
+    ),
+    ("alphabet a b\nstring x\nautomaton d\nstate q\nregular x d", [(3, "automaton 'd' accepts nothing: no accepting state can be reached from 'q'")]),
+    ("alphabet a b\nstring x\nautomaton d\naccepting q\nregular x d", []),  # the empty string alone
+    ("alphabet a b\nstring x\nautomaton d\nstate q a to r\nstate r b to end\naccepting end\nregular x d", []),
+    ("alphabet a b\nstring x\nautomaton d\naccepting q a to q, other to no\nstate no any to no\nregular x d", []),  # a sink is no doubt
     ("alphabet a\nautomaton d\naccepting q any to q", [(2, "automaton 'd' is in no constraint")]),
     ("alphabet a b\nstring x\nrule d = (a|b)*\nregular x d", []),
     ("alphabet a b\nstring x\nrule d =\nregular x d", []),  # the empty string alone, but that is something

@@ -4,6 +4,7 @@
 import sys
 from laid import stands
 
+GAP = 255  # in a row of an automaton: no move
 MARK = 7  # in every lent word before the call, where no table is given
 SETTLE = 2**32 - 1  # the call Settle in a list of calls
 BY_INDEX = 2**32 - 2  # the call Settle by index in a list of calls that is lent an index
@@ -59,6 +60,11 @@ def over(k, s, t, records, machines=()):
     return problem(k, [row(())] * s, [()] * t, records, machines)
 
 
+def ruled(machine):
+    """A file that holds its one string, of two symbols, to the automaton; its own table is empty."""
+    return over(2, 1, 0, [(7, 0, 0, 0)], [machine])
+
+
 def largest():
     """16 strings, 16 numbers, 64 constraints and 8 automata of 32 states over 64 symbols, every bit of the table there."""
     full = {i: 2**64 - 1 for i in range(1040)}
@@ -111,6 +117,22 @@ EDGES = [
     ("an accepting bit at q", file(d=1, machines=automaton(4, 2, accepting=4)), 0, 5, 5, 0),
     ("an accepting bit at 31", file(d=1, machines=automaton(4, 2, accepting=2**31)), 0, 5, 5, 0),
     ("a next state equal to q", file(d=1, machines=automaton(4, 2, moves=[0, 1, 0, 1, 0, 1, 0, 2])), 0, 5, 5, 0),
+    ("a next state equal to q - 1", file(d=1, machines=automaton(4, 2, moves=[0, 0, 0, 0, 0, 0, 0, 1])), 0, (4, 0, 0, 1, 0), "done", 0),
+    ("a next state 254", file(d=1, machines=automaton(4, 2, moves=[0, 1, 0, 1, 0, 1, 0, 254])), 0, 5, 5, 0),
+    ("a next state 255 is a gap", file(d=1, machines=automaton(4, 2, moves=[0, 1, 0, 1, 0, 1, 0, GAP])), 0, (4, 0, 0, 1, 0), "done", 0),
+    ("a gap out of state 0", file(d=1, machines=automaton(4, 2, moves=[GAP, 1, 0, 1, 0, 1, 0, 1])), 0, (4, 0, 0, 1, 0), "done", 0),
+    ("a next state equal to q between gaps", file(d=1, machines=automaton(4, 2, moves=[GAP, GAP, GAP, 2, GAP, GAP, GAP, GAP])), 0, 5, 5, 0),
+    ("every move missing", file(d=1, machines=automaton(4, 2, moves=[GAP] * 8)), 0, (4, 0, 0, 1, 0), "done", 0),
+    ("one state without moves", file(d=1, machines=automaton(4, 1, moves=[GAP] * 4)), 0, (4, 0, 0, 1, 0), "done", 0),
+    ("one state and the next state 1", file(d=1, machines=automaton(4, 1, moves=[GAP, 0, 1, GAP])), 0, 5, 5, 0),
+    ("32 states and the next state 31", file(k=1, d=1, machines=automaton(1, 32, moves=[31] * 32)), 0, (1, 0, 0, 1, 0), "done", 0),
+    ("32 states and the next state 32", file(k=1, d=1, machines=automaton(1, 32, moves=[GAP] * 31 + [32])), 0, 5, 5, 0),
+    ("32 states without moves, a sink would be the 33rd", file(k=1, d=1, machines=automaton(1, 32, moves=[GAP] * 32)), 0, (1, 0, 0, 1, 0), "done", 0),
+    ("32 states over 64 symbols without moves", file(k=64, d=1, machines=automaton(64, 32, 2**32 - 1, [GAP] * 2048)), 0, (64, 0, 0, 1, 0), "done", 0),
+    ("a state count 255 is no gap", file(d=1, machines=automaton(4, 255, moves=[GAP] * 4)), 0, 5, 5, 0),
+    ("the distances are looked at before a next state", file(d=1, machines=automaton(4, 2, moves=[2] * 8), back=(12, 13, 13)), 0, 4, 4, 0),
+    ("a next state is looked at before the table", file(s=1, d=1, words={1: 16}, machines=automaton(4, 2, moves=[GAP] * 7 + [2])), 64, 5, 5, 448),
+    ("behind gaps the table is looked at", file(s=1, d=1, words={1: 16}, machines=automaton(4, 2, moves=[GAP] * 8)), 64, 6, 6, 448),
     ("a bit at k - 1 in a symbol word", file(s=1, words={63: 8}), 64, (4, 1, 0, 0, 0), "done", 8),
     ("a bit at k in a symbol word", file(s=1, words={63: 16}), 64, 6, 6, 448),
     ("a bit at k in the last string's first symbol word", file(s=2, words={65: 16}), 128, 6, 6, 896),
@@ -150,6 +172,11 @@ EMPTY = string()
 CAT, LEN = (4, 0, 1, 2), (6, 0, 0, 0)
 PART = over(4, 2, 1, [(5, 0, 1, 0)])
 PARITY = automaton(2, 2, accepting=1, moves=[1, 0, 0, 1])
+# by ticket 5: one state without moves; symbols 1 and 0 in turn, 1 first and last, with gaps and with the sink written out; 31 times the symbol 0, and no 33rd state
+LONE = automaton(2, 1, moves=[GAP, GAP])
+TURNS, TURNS_SINK = automaton(2, 2, accepting=2, moves=[GAP, 1, 0, GAP]), automaton(2, 3, accepting=2, moves=[2, 1, 0, 2, 2, 2])
+ZEROS31 = automaton(2, 32, accepting=2**31, moves=[next for i in range(31) for next in (i + 1, GAP)] + [GAP, GAP])
+FREE3, TURNED3 = row({1, 2, 3}, {0, 1}, {0, 1}, {0, 1}), row({1, 3}, {1}, {0}, {1})
 X14, Y14, Z14, N14 = row({1, 2}, {0, 1}, {0, 1}), row({0, 1}, {1}), row({2}, {0}, {0, 1}), {0, 1, 2, 3}
 P14 = problem(2, [X14, Y14, Z14], [N14], [CAT, LEN])
 T14 = table([X14, Y14, Z14], [N14])
@@ -188,6 +215,15 @@ STEPS = [
     ("P11 Sub", PART, 0, table([EMPTY, EMPTY], [{1}]), "struck 0", None),
     ("P12 Len", over(4, 1, 1, [LEN]), 0, table([row({0, 3}, {0}, {0}, {0})], [{1, 3}]), "struck 2", table([string(0, 0, 0)], [{3}])),
     ("P13 Regular", over(2, 1, 0, [(7, 0, 0, 0)], [PARITY]), 0, row({1, 2}, {0}, {0, 1}), "struck 2", string(0, 0)),
+    # a gap rejects the string; where a symbol has no move it goes, also where every state that is reached goes on
+    ("one state without moves: the empty string alone", ruled(LONE), 0, row({0, 1, 2}, {0, 1}, {0, 1}), "struck 6", EMPTY),
+    ("one state without moves: no string of one symbol", ruled(LONE), 0, row({1}, {0, 1}), "struck 3", NOTHING),
+    ("no moves, and no state that accepts", ruled(automaton(2, 2, 0, [GAP] * 4)), 0, row({0, 1}, {0}), "struck 3", NOTHING),
+    ("symbols in turn by gaps", ruled(TURNS), 0, FREE3, "struck 4", TURNED3),
+    ("symbols in turn by a sink", ruled(TURNS_SINK), 0, FREE3, "struck 4", TURNED3),
+    ("a gap out of state 0", ruled(automaton(2, 2, 2, [GAP, 1, 1, 1])), 0, row({1, 2}, {0, 1}, {0, 1}), "struck 1", row({1, 2}, {1}, {0, 1})),
+    ("a gap at the last place", ruled(automaton(2, 2, 3, [0, 1, GAP, GAP])), 0, row({2}, {0, 1}, {0, 1}), "struck 1", row({2}, {0}, {0, 1})),
+    ("32 states with gaps", ruled(ZEROS31), 0, row({30, 31, 32}, *[{0, 1}] * 32), "struck 35", string(*[0] * 31)),
     # an empty part is met at 1 to one place after the last symbol
     ("an empty part of the empty string, not at 0", PART, 0, table([EMPTY, EMPTY], [{0}]), "struck 3", table([NOTHING, NOTHING], [()])),
     ("an empty part of the empty string, at 0 or 1", PART, 0, table([EMPTY, EMPTY], [{0, 1}]), "struck 1", table([EMPTY, EMPTY], [{1}])),
@@ -243,6 +279,8 @@ SETTLES = [
     ("a number with no value", over(4, 0, 2, []), table([], [{5}, ()]), "rounds 1 false", None),
     ("an empty part of the empty string, at 1", PART, table([EMPTY, EMPTY], [{1}]), "rounds 1 true", None),
     ("a string of 63 places", over(1, 1, 0, []), FULL63, "rounds 1 true", None),
+    ("symbols in turn by gaps", ruled(TURNS), FREE3, "rounds 2 true", TURNED3),
+    ("one state without moves", ruled(LONE), row({1}, {0, 1}), "rounds 2 false", NOTHING),
     ("a lent table a word short", PLAIN, MARKS[1:], "refused 9", None),
     ("a lent table a word long", PLAIN, MARKS + [MARK], "refused 9", None),
     ("the size is looked at before the symbols", PLAIN, [16] * 66, "refused 9", None),
@@ -452,6 +490,12 @@ SEARCHES = [
     ("k 64 and symbol 63", problem(64, [row({1}, {62, 63})], records=[]), 2, 192, 64, "found 2", string(62)),
     ("an empty suffix behind 01", problem(4, [string(0, 1), EMPTY], [{3}], [(5, 0, 1, 0)]), 1, 387, 129, "found 1", table([string(0, 1), EMPTY], [{3}])),
     ("an empty suffix further behind 01", problem(4, [string(0, 1), EMPTY], [{4}], [(5, 0, 1, 0)]), 1, 387, 129, "none 1", None),
+    # the lengths 1 and 3 are left, and the shorter string comes first
+    ("symbols in turn by gaps", problem(2, [FREE3], records=[(7, 0, 0, 0)], machines=[TURNS]), 2, 192, 64, "found 2", string(1)),
+    ("symbols in turn by a sink", problem(2, [FREE3], records=[(7, 0, 0, 0)], machines=[TURNS_SINK]), 2, 192, 64, "found 2", string(1)),
+    ("symbols in turn by gaps, a node short", problem(2, [FREE3], records=[(7, 0, 0, 0)], machines=[TURNS]), 1, 192, 64, "spent 1", None),
+    ("no symbol by which state 0 moves", problem(2, [row({1, 2}, {0}, {1})], records=[(7, 0, 0, 0)], machines=[TURNS]), 1, 192, 64, "none 1", None),
+    ("32 states with gaps", problem(2, [row({30, 31}, *[{0, 1}] * 31)], records=[(7, 0, 0, 0)], machines=[ZEROS31]), 1, 192, 64, "found 1", string(*[0] * 31)),
 ]
 
 # ---- refusals 1 to 8 come first: the lent table, the room and the index have the wrong size for each of these files, and there is no such step

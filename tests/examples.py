@@ -36,6 +36,7 @@ EXAMPLES = {
     "name_first": ("found 34695", {"name": "aaa0000", "course": "aaa", "other_course": "aaa0"}),
     "injective": ("none 1", {}),
     "suffix": ("found 8", {"name": "aaaa-000", "signer": "aaaa", "counter": "-000", "tag": "", "place": 9}),
+    "dates": ("found 5", {"name": "aaaa-1231", "signer": "aaaa", "date": "1231", "take": "1231"}),
 }
 CUT = {"broken": 1024}  # bytes of the packed file that the problem file has
 # name of a set: for each question that clashes, the two choices of parts
@@ -75,6 +76,8 @@ def accepts(problem, automaton, text):
     state = 0
     for letter in text:
         state = automaton.moves[state][problem.letters.index(letter)]
+        if state == packing.GAP:
+            return False
     return automaton.accepting >> state & 1 == 1
 
 
@@ -187,10 +190,21 @@ def injective_texts():
     yield "injective.text, a rendition of length 3 and a longer one", shorter, "none 1\n"
 
 
+def with_sinks(text):
+    """The text with a sink in each automaton, and a move to it from every state for the letters that the state's line does not name."""
+    lines = [""]
+    for line in text.split("\n"):
+        within = line.split()[0] in ("state", "accepting")
+        if lines[-1].endswith(" other to no") and not within:
+            lines.append("  state no any to no")
+        lines.append(f"{line}{',' if ' to ' in line else ''} other to no" if within else line)
+    return "\n".join(lines)
+
+
 def changed_texts():
     """What the other texts say of changes to them, in the same form."""
     rule = "\n".join(statements("rule")[:-1])
-    counter, budget, suffix = ("\n".join(statements(name)) for name in ("counter", "budget", "suffix"))
+    counter, budget, suffix, dates = ("\n".join(statements(name)) for name in ("counter", "budget", "suffix", "dates"))
     one_width = counter.replace("number width_1080 in 1..5\n", "").replace("width_1080", "width_master")
     yield "rule.text without its last line", rule, path("renditions", "answer").read_text()
     yield "signers.text with a signer called hd", "\n".join(statements("signers")).replace("eva", "hd"), "found "
@@ -200,6 +214,8 @@ def changed_texts():
     yield "the whole file of broken.text", "\n".join(statements("broken")), "none "
     yield "suffix.text with a tag that is never missing", suffix.replace("tag length 0, 4..8", "tag length 4..8"), "none 1\n"
     yield "suffix.text with a tag at place 10", suffix.replace("place in 9", "place in 10"), "none 1\n"
+    yield "dates.text with takes from 1232 on", dates.replace("fourth       1..9", "fourth       2..9"), "none 1\n"
+    yield "dates.text with sinks written out", with_sinks(dates), path("dates", "answer").read_text()
     yield "budget.text with one automaton", budget.replace("accepting", "state").replace("regular serial odd", ""), "none 1\n"
 
 

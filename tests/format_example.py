@@ -1,5 +1,5 @@
 # The example of docs/FORMAT.md: its bytes as the document lists them, the text that they are to be packed from, the answer that it gives, and the calls of
-# the builder that make the same file, which a test of the Rust crate runs.
+# the builder that make the same file, which a test of the Rust crate runs. And the automaton with gaps, and with a sink, that the document lists before it.
 import re
 import sys
 from promises import ROOT
@@ -11,6 +11,8 @@ import textform
 DOCUMENT = ROOT / "docs" / "FORMAT.md"
 BUILT = ROOT / "bindings" / "rust" / "tests" / "builder.rs"
 BLOCK = r"(?:^    .*\n)+"  # lines that are indented
+LISTED = "alphabet 0..2\nautomaton d\nstate q0 0 to q1\naccepting q1 1 to q1\n"
+SUNK = "alphabet 0..2\nautomaton d\nstate q0 0 to q1, other to q2\naccepting q1 1 to q1, other to q2\nstate q2 any to q2\n"
 BYTES = re.compile(r"^ *(\d+)  (?:00 x (\d+)|((?:[0-9a-f]{2} )*[0-9a-f]{2}))  +\S")
 
 
@@ -47,6 +49,10 @@ def wrong():
         return said + [str(error)]
     if content != packed:
         said.append(f"docs/FORMAT.md lists {len(content)} bytes that are not the {len(packed)} of its text")
+    sunk = re.search(r"With a\nsink, state 2, it has 14: `([0-9a-f ]+)`", DOCUMENT.read_text())
+    for what, digits, written in (("gaps", block("02"), LISTED), ("a sink", sunk[1] if sunk else "", SUNK)):
+        if bytes.fromhex(digits) != packing.pack(textform.read(what, written.encode()))[: -packing.TRAILER]:
+            said.append(f"docs/FORMAT.md lists other bytes for the automaton with {what}")
     calls = "".join("    " + line + "\n" for line in block("let").splitlines())
     if not calls or calls not in BUILT.read_text():
         said.append(f"the builder's calls in docs/FORMAT.md are not those of {BUILT.relative_to(ROOT)}")

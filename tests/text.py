@@ -21,6 +21,7 @@ from problems import PROBLEMS
 
 GENERATED, SEED = 300, 20
 ABC = "alphabet a..c -\n"  # symbols 0 to 3
+X, N, D = 'string x = "a"\n', "number n in 1\n", "automaton d\n"
 
 # (text, the file it is packed into)
 TEXTS = [
@@ -57,6 +58,21 @@ TEXTS = [
             machines=[automaton(4, 1), automaton(4, 3, 2, [1, 0, 2, 0, 1, 1, 0, 0, 2, 2, 2, 2])],
         ),
     ),
+    # letters that a line does not name: no move, byte 255
+    (
+        ABC + D + "state start a b to more\naccepting more - to start, a..c to more",
+        problem(4, [], machines=[automaton(4, 2, 0b10, [1, 1, 255, 255, 1, 1, 1, 0])]),
+    ),
+    (ABC + D + "accepting end", problem(4, [], machines=[automaton(4, 1, 0b1, [255] * 4)])),  # the empty string alone
+    (ABC + D + "state q # nothing behind the name\nstate r", problem(4, [], machines=[automaton(4, 2, 0, [255] * 8)])),
+    (ABC + D + "state q none to q", problem(4, [], machines=[automaton(4, 1, 0, [255] * 4)])),
+    (ABC + D + "state q - to r\naccepting r any to r", problem(4, [], machines=[automaton(4, 2, 0b10, [255, 255, 255, 1, 1, 1, 1, 1])])),
+    (ABC + D + "state q a to q, other to r\naccepting r b to q", problem(4, [], machines=[automaton(4, 2, 0b10, [0, 1, 1, 1, 255, 0, 255, 255])])),
+    # 32 states, none of them a sink: the text of 31 letters a
+    (
+        ABC + D + "".join(f"state q{i} a to q{i + 1}\n" for i in range(31)) + "accepting q31",
+        problem(4, [], machines=[automaton(4, 32, 1 << 31, [to for i in range(1, 32) for to in (i, 255, 255, 255)] + [255] * 4)]),
+    ),
     (
         "alphabet 0 1\nstring x length 1, 2\nstring y length 0, 1 of 1\nstring z length 2\n  at 1 0\nnumber n in 0..3\ncat x y z\nlen x n",
         P14,
@@ -70,9 +86,12 @@ SHOWN = [
     "alphabet a..z 0..9\nstring x length none\n  at 63 a\nstring y length 1 of none\nautomaton word\n  state start a..z to more, other to no\n"
     "  accepting more a..y to more, z to start, other to no\n  state no any to no\nautomaton odd\n  state even 1 3 to odd, other to even\n"
     "  accepting odd 1 3 to even, other to odd\nregular x odd\nregular y word\n",
+    # beside a gap no `other`, and the moves by their first letters; a state without gaps has it, also where it leads to one without moves
+    "alphabet a..z 0..9 -\nautomaton path\n  state start a..z to signer\n  state signer a..z to signer, - to behind\n  state behind 0..9 to counter\n"
+    "  accepting counter 0..9 to counter\nautomaton nothing\n  accepting end\nautomaton d\n  state q a..y to end, z to q, 0..4 to r\n"
+    "  accepting r 0..9 to q, - to r, other to end\n  state end\n",
 ]
 
-X, N, D = 'string x = "a"\n', "number n in 1\n", "automaton d\n"
 LETTERS64 = 'alphabet a..z A..Z 0..9 - " "'
 STATEMENTS = "alphabet, string, at, number, rule, automaton, state, accepting, eq, neq, rev, cat, sub, len, regular"
 
@@ -161,13 +180,16 @@ BROKEN = [
     (ABC + D, 2, "automaton 'd' has no state: expected 'state' or 'accepting' lines under it"),
     (ABC + D + "state q any to q\nstate q any to q", 4, "state 'q' of 'd' is declared twice: it is in line 3"),
     (ABC + D + "".join(f"state q{i} any to q0\n" for i in range(33)), 35, "state 'q32' of 'd' is one too many: expected 32 at most"),
-    (ABC + D + "state q", 3, "expected letters, found the end of the line"),
+    (ABC + D + "".join(f"state q{i}\n" for i in range(33)), 35, "state 'q32' of 'd' is one too many: expected 32 at most"),
+    (ABC + D + "state q a to q,", 3, "expected letters, found the end of the line"),
+    (ABC + D + "state q to q", 3, "expected letters, found 'to'"),
     (ABC + D + "state q any q", 3, "expected 'to' and a state, found 'q'"),
     (ABC + D + "state q a..c", 3, "expected 'to' and a state, found the end of the line"),
-    (ABC + D + "state q a to q, c to q", 3, "state 'q' has no move for b -: expected one for each letter, or 'other to STATE' at the end"),
+    (ABC + D + "state q a to q, a to r\nstate r", 3, "the letter 'a' has two moves from state 'q'"),
     (ABC + D + "state q a b to q, b c to q, - to q", 3, "the letter 'b' has two moves from state 'q'"),
     (ABC + D + "state q other to q, a to q", 3, "expected the end of the line, found ','"),
     (ABC + D + "state q a to r, other to s\nstate s any to q", 3, "no state of 'd' is called 'r' (declared: q, s)"),
+    (ABC + D + "state q a to q\naccepting s b to r", 4, "no state of 'd' is called 'r' (declared: q, s)"),
     (ABC + "eq x y", 2, "no string is called 'x' (declared: none)"),
     (ABC + X + 'string signer = "b"\n\neq corse x', 5, "no string is called 'corse' (declared: x, signer)"),
     (ABC + X + N + "len x m", 4, "no number is called 'm' (declared: n)"),
@@ -195,6 +217,7 @@ PATTERNS = [
 
 UNFIT = "the file has 3 strings, the text 2: expected the text that it was packed from"  # P14's file, the text NAMED
 NAMED = "alphabet x y\nstring course length 1\nstring none = \"\"\nnumber width in 3\n"
+LISTED = 'alphabet a..c -\nstring x = "a"\nautomaton d\n  state q a b to end\n  accepting end\nregular x d\n'
 FIRST = "line 1: expected found, none, spent or refused and a number, as the program prints"
 # (lines that the program prints for NAMED, the answer in words or its error)
 ANSWERS = [
@@ -223,6 +246,11 @@ ANSWERS = [
 
 # What the paper says of each refusal, in a few words of it.
 MEANT = {1: "24 bytes", 2: "TAIL", 3: "out of range", 4: "distances", 5: "automata", 6: "alphabet", 7: "kind", 8: "twice"}
+# (states, a next state, whether a file may have it)
+NEXT = [(1, 0, True), (1, 1, False), (2, 1, True), (2, 2, False), (32, 31, True), (32, 32, False)] + [(q, n, n == 255) for q in (1, 2, 32) for n in (254, 255)]
+REFUSED_5 = (
+    "refused 5: the automata are not exactly as many as the trailer counts, each with 1 to 32 states and every next state one of them, or 255 for no move"
+)
 
 
 def words(rng, k, size):
@@ -244,8 +272,13 @@ def any_row(rng, k):
 
 
 def any_automaton(rng, k):
+    """Every move alike or each for itself; without gaps, with few, with many, or with nothing else."""
     q = rng.choice([1, 2, 3, 32])
-    return automaton(k, q, rng.choice([0, 2**q - 1, rng.getrandbits(q)]), rng.choice([None, [rng.randrange(q) for _ in range(q * k)], [q - 1] * (q * k)]))
+    moves = rng.choice([None, [rng.randrange(q) for _ in range(q * k)], [q - 1] * (q * k), [255] * (q * k)])
+    gaps = rng.choice([0, 0, 0.1, 0.7])
+    if moves:
+        moves = [255 if rng.random() < gaps else to for to in moves]
+    return automaton(k, q, rng.choice([0, 2**q - 1, rng.getrandbits(q)]), moves)
 
 
 def any_record(rng, s, t, d):
@@ -357,6 +390,17 @@ def refusals():
     return wrong
 
 
+def next_states():
+    """A next state is below q, or 255 for none, wherever it stands in the automaton."""
+    wrong = []
+    for q, target, good in NEXT:
+        for place in (0, 3 * q - 1):
+            content = file(k=3, d=1, machines=automaton(3, q, 0, [0] * place + [target] + [0] * (3 * q - 1 - place)))
+            said = complaint(lambda: packing.unpack(content), packing.Refused)
+            wrong += [] if said == ("no error" if good else REFUSED_5) else [f"a next state {target} of {q} states at place {place}: {said}"]
+    return wrong
+
+
 def answers():
     problem_named, wrong = read(NAMED), []
     for lines, expected in ANSWERS:
@@ -376,11 +420,15 @@ def run(*arguments, given=b""):
 def commands():
     """The tool as it is called: exit status, standard output, standard error, and what is written."""
     with tempfile.TemporaryDirectory() as folder:
-        good, bad, other, made, cut = (Path(folder) / name for name in ("good.text", "bad.text", "other.text", "made.problem", "cut.problem"))
+        names = ("good.text", "bad.text", "other.text", "listed.text", "made.problem", "cut.problem", "gap.problem", "past.problem")
+        good, bad, other, listed, made, cut, gap, past = (Path(folder) / name for name in names)
         good.write_text(TEXTS[-1][0])
         other.write_text(NAMED)
         bad.write_text(ABC + "eq x y")
         cut.write_bytes(P14[:100])
+        listed.write_text(LISTED)
+        gap.write_bytes(problem(4, [string(0)], records=[(7, 0, 0, 0)], machines=[automaton(4, 2, 0b10, [1, 1, 255, 255, 255, 255, 255, 255])]))
+        past.write_bytes(gap.read_bytes().replace(b"\1\1\xff", b"\1\1\xfe"))
         named = "alphabet 0 1\nstring x length 1, 2\nstring y length 0, 1 of 1\nstring z length 2\n  at 1 0\nnumber n in 0..3\ncat x y z\nlen x n\n"
         plain = named
         for name, position in (("x", "s0"), ("y", "s1"), ("z", "s2"), ("n", "n0")):
@@ -395,6 +443,9 @@ def commands():
             (run("show", made), (0, plain.encode(), "")),
             (run("show", "--names", good, made), (0, named.encode(), "")),
             (run("show", cut), (3, b"", f"{cut}: refused 2: the file does not end in the bytes TAIL\n")),
+            (run("pack", listed), (0, gap.read_bytes(), "")),
+            (run("show", "--names", listed, gap), (0, LISTED.encode(), "")),
+            (run("show", past), (3, b"", f"{past}: {REFUSED_5}\n")),
             (run("answer", good, given=b"none 5\n"), (0, ANSWERS[1][1].replace("1\n", "5\n").encode(), "")),
             (run("answer", good, given=b"spent 5\n"), (2, ANSWERS[2][1].replace("65536\n", "5\n").encode(), "")),
             (run("answer", good, given=b"refused 8\n"), (3, ANSWERS[3][1].encode(), "")),
@@ -415,12 +466,12 @@ def commands():
 
 def main():
     files = accepted()
-    wrong = texts() + errors() + translations() + round_trips(files) + named_trips() + refusals() + answers() + commands()
+    wrong = texts() + errors() + translations() + round_trips(files) + named_trips() + refusals() + next_states() + answers() + commands()
     for line in wrong:
         print("text: " + line)
     if not wrong:
         counts = ((TEXTS + SHOWN, "texts"), (BROKEN, "broken texts"), (PATTERNS, "patterns put into the library's letters"))
-        counts += ((files, "files shown and packed again"), (EDGES, "edges of Read"), (ANSWERS, "answers"))
+        counts += ((files, "files shown and packed again"), (EDGES, "edges of Read"), (NEXT, "next states"), (ANSWERS, "answers"))
         print("text: " + ", ".join(f"{len(cases)} {name}" for cases, name in counts) + " stand")
     return 1 if wrong else 0
 

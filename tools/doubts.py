@@ -1,7 +1,7 @@
 # What in a text lets a `none` say nothing, or shows that a constraint was forgotten: a domain that holds nothing, lengths that can never be, an automaton that
 # accepts nothing, what looks like a range in a pattern, a name that no constraint names. It looks at each declaration by itself and solves nothing;
 # templates.py has the doubts that need the solver.
-from packing import LIMIT
+from packing import GAP, LIMIT
 from patterns import ranges
 from wording import number_set
 
@@ -23,7 +23,7 @@ def reached(automaton):
     states, fresh = 1, [0]
     while fresh:
         for state in automaton.moves[fresh.pop()]:
-            if not states >> state & 1:
+            if state != GAP and not states >> state & 1:
                 states |= 1 << state
                 fresh.append(state)
     return states

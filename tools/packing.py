@@ -11,6 +11,7 @@ EVERY = 2**LIMIT - 1  # the word of every length, or every value
 MOST = {"letters": 64, "strings": 16, "numbers": 16, "automata": 8, "constraints": 64, "states": 32}
 LARGEST_FILE = 25024  # bytes
 TRAILER = 24  # bytes
+GAP = 255  # in the place of a next state: there is no move, and the string is rejected
 MARK = b"TAIL"
 DEFAULT_LETTERS = digits + ascii_lowercase + ascii_uppercase + "-_"  # 64 of them
 
@@ -30,7 +31,7 @@ REFUSALS = {
     2: "the file does not end in the bytes TAIL",
     3: "a count is out of range (1 to 64 symbols, at most 16 strings, 16 numbers, 8 automata, 64 constraints), or bytes 6 and 7 of the trailer are not 0",
     4: "the parts do not lie one behind the other as the trailer's distances say, or the file is longer than the largest one, 25024 bytes",
-    5: "the automata are not exactly as many as the trailer counts, each with 1 to 32 states and every move to one of them",
+    5: "the automata are not exactly as many as the trailer counts, each with 1 to 32 states and every next state one of them, or 255 for no move",
     6: "a string allows a symbol that is not in the alphabet",
     7: "a constraint is of no kind from 1 to 7, names a variable or an automaton that is not there, or has an unused argument that is not 0",
     8: "a constraint names one string twice",
@@ -49,7 +50,7 @@ class Refused(Exception):
 class Automaton:
     states: list  # their names, the start state first
     accepting: int  # bit q for state q
-    moves: list  # for each state the next state for each symbol, as positions
+    moves: list  # for each state the next state for each symbol, as positions, and GAP where there is none
 
 
 @dataclass
@@ -131,7 +132,7 @@ def unpack_automata(content, k, d):
     for _ in range(d):
         q, size = content[0] if content else 0, 5 + (content[0] if content else 0) * k
         accepting, moves = number(content[1:5]), content[5:size]
-        if not 1 <= q <= MOST["states"] or len(content) < size or accepting >> q or max(moves) >= q:
+        if not 1 <= q <= MOST["states"] or len(content) < size or accepting >> q or any(q <= target != GAP for target in moves):
             raise Refused(5)
         automata.append(Automaton([f"q{i}" for i in range(q)], accepting, [list(moves[i * k : i * k + k]) for i in range(q)]))
         content = content[size:]

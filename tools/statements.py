@@ -5,7 +5,7 @@ from typing import NamedTuple
 
 import patterns
 from lines import Line, Wrong
-from packing import MOST, Automaton
+from packing import GAP, MOST, Automaton
 from wording import letters_shown
 
 
@@ -14,7 +14,7 @@ class Draft(NamedTuple):
 
     line: Line
     name: str
-    states: dict  # name to (line, whether it accepts, the next state's name for each symbol)
+    states: dict  # name to (line, whether it accepts, the next state's name for each symbol, None at a gap)
 
 
 class Rule(NamedTuple):
@@ -112,9 +112,9 @@ class Statements:
         self.state(line, True)
 
     def moves(self, line, name):
-        """For each symbol the name of the state that it leads to."""
-        moves = [None] * len(self.symbols)
-        while True:
+        """For each symbol the name of the state that it leads to, or None where the line names no move for it."""
+        moves, more = [None] * len(self.symbols), line.more()
+        while more:
             begin = line.next
             other = line.took("other")
             word = sum(1 << symbol for symbol, target in enumerate(moves) if target is None) if other else self.letters(line)
@@ -125,11 +125,7 @@ class Statements:
                 raise line.unexpected("'to' and a state")
             target = line.name("a state")
             moves = [target if word >> symbol & 1 else before for symbol, before in enumerate(moves)]
-            if other or not line.took(","):
-                break
-        missing = "".join(letter for letter, target in zip(self.symbols, moves) if target is None)
-        if missing:
-            raise line.wrong(f"state '{name}' has no move for {letters_shown(missing)}: expected one for each letter, or 'other to STATE' at the end")
+            more = not other and line.took(",")
         return moves
 
     def finish_automaton(self):
@@ -141,11 +137,12 @@ class Statements:
         names = list(states)
         for state_line, _, moves in states.values():
             for target in moves:
-                if target not in states:
+                if target is not None and target not in states:
                     column = next(token.column for before, token in zip(state_line.tokens, state_line.tokens[1:]) if before.text == "to" and token.text == target)
                     raise state_line.wrong(f"no state of '{name}' is called '{target}' (declared: {', '.join(names)})", column)
         accepting = sum(1 << i for i, (_, accepts, _) in enumerate(states.values()) if accepts)
-        self.automata[name] = Automaton(names, accepting, [[names.index(target) for target in moves] for _, _, moves in states.values()])
+        positions = {None: GAP} | {state: i for i, state in enumerate(names)}
+        self.automata[name] = Automaton(names, accepting, [[positions[target] for target in moves] for _, _, moves in states.values()])
         self.draft = None
 
     def read(self, path, content):

@@ -4,7 +4,7 @@ import re
 from collections import Counter
 from string import ascii_lowercase, ascii_uppercase, digits
 
-from packing import EVERY, KINDS, LIMIT, REFUSALS, Problem
+from packing import EVERY, GAP, KINDS, LIMIT, REFUSALS, Problem
 
 
 def quoted(text):
@@ -78,19 +78,23 @@ def string_lines(name, row, letters):
 
 
 def dead_end(automaton, state):
-    return not automaton.accepting >> state & 1 and set(automaton.moves[state]) == {state}
+    return not automaton.accepting >> state & 1 and {state, GAP}.issuperset(automaton.moves[state])
 
 
 def state_line(automaton, state, letters):
-    """The moves of a state by where they lead; those into a dead end, or else those of the most letters, come last, as `other`."""
+    """The moves of a state by where they lead; those into a dead end, or else those of the most letters, come last, as `other`. Beside a gap there is no `other`:
+    it would be a move for the letters of the gap too."""
     word = "accepting" if automaton.accepting >> state & 1 else "state"
     moves = automaton.moves[state]
-    last = max(set(moves), key=lambda target: (dead_end(automaton, target), moves.count(target), -target))
-    targets = sorted(set(moves), key=lambda target: (target == last, moves.index(target)))
+    targets = sorted(set(moves) - {GAP}, key=moves.index)
+    if GAP not in moves:
+        last = max(targets, key=lambda target: (dead_end(automaton, target), moves.count(target), -target))
+        targets.sort(key=lambda target: target == last)
     parts = [letter_set(sum(1 << symbol for symbol, to in enumerate(moves) if to == target), letters) for target in targets]
-    if len(parts) > 1:
+    if GAP not in moves and len(parts) > 1:
         parts[-1] = "other"
-    return f"  {word} {automaton.states[state]} " + ", ".join(f"{part} to {automaton.states[target]}" for part, target in zip(parts, targets))
+    said = ", ".join(f"{part} to {automaton.states[target]}" for part, target in zip(parts, targets))
+    return f"  {word} {automaton.states[state]} {said}".rstrip()
 
 
 def text(problem):

@@ -3,13 +3,14 @@
 use crate::disagreement::{self, Compared};
 use crate::ended;
 use crate::entries;
+use crate::gaps::Record;
 use crate::lent::{Lent, Memory};
 use crate::marked::{Held, Marked};
 use crate::random::Random;
 use crate::tally::{self, Event, Tally};
 use cobleskeg::SETTLE;
-use second::domain::number_place;
-use second::relations::Relation;
+use second::domain::{number_place, row};
+use second::relations::{Automaton, Relation};
 use second::Outcome;
 
 /// The most choices that are tried one by one for a step.
@@ -23,8 +24,12 @@ pub struct Calls<'a> {
     pub tally: &'a mut Tally,
     /// The constraints, by the second solver; none where the file is refused.
     pub relations: Vec<Relation>,
+    /// The automata, by the second solver; none where the file is refused.
+    pub automata: Vec<Automaton>,
     /// The file's index, as the library built it; nothing where the file is refused.
     pub index: Vec<u64>,
+    /// What every call answered and left, where it is to be held against another file's.
+    pub record: Option<Record>,
     /// Whether steps are also held against trying every choice.
     pub try_choices: bool,
 }
@@ -55,7 +60,7 @@ impl Calls<'_> {
         let wanted = theirs.ok().map(|header| [header.symbols, header.strings, header.numbers, header.automata, header.constraints]);
         let names = ["symbols", "strings", "numbers", "automata", "constraints"];
         let results: Vec<Held> = (0..5).map(|at| counts[at].held(names[at], wanted.map(|wanted| wanted[at]))).collect();
-        self.tally.file(file.len(), theirs.err());
+        self.tally.file(file, theirs.err());
         self.agree(0, || "read".into(), ours, theirs.err(), &results, &[])
     }
 
@@ -83,6 +88,9 @@ impl Calls<'_> {
         }
         if let Some(left) = self.relations.get(j).and_then(|relation| part(relation, table.theirs())) {
             self.tally.part(left);
+        }
+        if let Some(&Relation::Regular(x, d)) = self.relations.get(j) {
+            self.tally.gaps.step(&self.automata[d], &row(words, x), &row(table.theirs(), x));
         }
         if self.try_choices {
             self.try_choices(j, words, struck, &mut table)?;
@@ -175,6 +183,9 @@ impl Calls<'_> {
     /// Counts a call of this entry, and compares.
     pub fn agree(&mut self, entry: usize, call: impl Fn() -> String, ours: u8, refused: Option<u8>, results: &[Held], buffers: &[Named]) -> Compared<()> {
         self.tally.call(entry, refused);
+        if let Some(record) = &mut self.record {
+            record.note(call(), ours, results, buffers);
+        }
         differing(call, ours, refused, results, buffers)
     }
 }

@@ -2,6 +2,7 @@
 
 use crate::damage::{self, Damage};
 use crate::draft::Draft;
+use crate::gaps::{self, Pair};
 use crate::kind::{Kind, COSTLY_EVERY};
 use crate::measure::Measure;
 use crate::random::Random;
@@ -12,11 +13,12 @@ use std::sync::OnceLock;
 /// The sort of a known tree changes after so many cases: of those that come up in any run the first is deep, the second bushy, and so on.
 const TREE_EVERY: u64 = 2000;
 
-/// The kind of a case, its file, what is known of its tree, how much of it is called, and the random words for that.
+/// The kind of a case, its file, what is known of its tree, the files that go with one of a pair, how much of it is called, and the random words for that.
 pub struct Case {
     pub kind: Kind,
     pub file: Vec<u8>,
     pub known: Option<Known>,
+    pub pair: Option<Pair>,
     pub measure: Measure,
     pub random: Random,
 }
@@ -25,18 +27,26 @@ impl Case {
     pub fn new(seed: u64, index: u64) -> Case {
         let mut random = Random::new(seed, index);
         let kind = Kind::of(index, &mut random);
-        let (file, known) = match kind {
+        let (file, known, pair) = match kind {
             Kind::Tree => with_tree(trees::known(&mut random, index / TREE_EVERY)),
             Kind::Full => with_tree(trees::full(&mut random, index / COSTLY_EVERY)),
-            _ => (file(kind, &mut random), None),
+            Kind::Pairs => with_sinks(&gaps::fillable(&mut random)),
+            _ => (file(kind, &mut random), None, None),
         };
         let measure = Measure::of(kind, &mut random);
-        Case { kind, file, known, measure, random }
+        Case { kind, file, known, pair, measure, random }
     }
 }
 
-fn with_tree((draft, known): (Draft, Known)) -> (Vec<u8>, Option<Known>) {
-    (draft.bytes(), Some(known))
+/// A file, and what there is beside it.
+type Given = (Vec<u8>, Option<Known>, Option<Pair>);
+
+fn with_tree((draft, known): (Draft, Known)) -> Given {
+    (draft.bytes(), Some(known), None)
+}
+
+fn with_sinks(draft: &Draft) -> Given {
+    (draft.bytes(), None, Some(Pair::of(draft)))
 }
 
 fn file(kind: Kind, random: &mut Random) -> Vec<u8> {
@@ -51,6 +61,7 @@ fn file(kind: Kind, random: &mut Random) -> Vec<u8> {
         Kind::Hard => hard::hard(random).bytes(),
         Kind::Late => late::difference(random).bytes(),
         Kind::Chain => late::chain(random).bytes(),
+        Kind::Gaps => gaps::ruled(random, gaps::MOST_STATES).bytes(),
         Kind::Damaged => damaged(random, damage::sound, false),
         Kind::TwiceDamaged => damaged(random, damage::sound, true),
         Kind::DamagedLimits => {
@@ -61,7 +72,7 @@ fn file(kind: Kind, random: &mut Random) -> Vec<u8> {
         Kind::Noise => noise::bytes(random),
         Kind::Oversized => oversized::bytes(random),
         Kind::Endless => hard::endless().bytes(),
-        Kind::Tree | Kind::Full => unreachable!("a known tree has its own way"),
+        Kind::Tree | Kind::Full | Kind::Pairs => unreachable!("known trees and pairs have their own way"),
     }
 }
 

@@ -4,9 +4,11 @@ use crate::calls::Calls;
 use crate::case::Case;
 use crate::disagreement::{Compared, Disagreement};
 use crate::drive::Drive;
+use crate::gaps::{searched, Record};
 use crate::kind::Kind;
 use crate::lent::Memory;
 use crate::program;
+use crate::random::Random;
 use crate::tally::{Event, Tally};
 use second::Outcome;
 use std::path::Path;
@@ -18,18 +20,51 @@ impl Case {
     /// All calls, and at times the program.
     pub fn compare(&mut self, program: Option<&Path>, memory: &Memory, tally: &mut Tally) -> Compared<()> {
         tally.kinds[self.kind as usize] += 1;
-        let file = memory.bytes(&mut self.random, &self.file);
-        let (random, relations, index, try_choices) = (&mut self.random, Vec::new(), Vec::new(), self.measure.try_choices);
-        let calls = Calls { file, memory, random, tally, relations, index, try_choices };
-        let outcome = Drive { calls, measure: self.measure, known: self.known.as_ref() }.run()?;
-        if file != self.file {
-            return Err(Disagreement { call: "all".into(), ours: "the file is changed".into(), theirs: String::new(), word: None });
+        let before = self.random.clone();
+        let mut random = before.clone();
+        let record = self.pair.is_some().then(Record::default);
+        let (outcome, record) = self.drive(&self.file, &mut random, memory, tally, record)?;
+        self.random = random;
+        if let Some(record) = record {
+            self.hold_against_sinks(&record, before, memory, tally)?;
         }
         let spent = matches!(outcome, Some(Outcome::Spent(_)));
         match program {
             Some(program) if self.goes_through_program(spent) => self.run(program, spent, tally),
             _ => Ok(()),
         }
+    }
+
+    /// All calls on one file. Answers what Search comes to, and what every call answered and left where it is to be recorded.
+    fn drive(
+        &self,
+        bytes: &[u8],
+        random: &mut Random,
+        memory: &Memory,
+        tally: &mut Tally,
+        record: Option<Record>,
+    ) -> Compared<(Option<Outcome>, Option<Record>)> {
+        let file = memory.bytes(random, bytes);
+        let (relations, automata, index, try_choices) = (Vec::new(), Vec::new(), Vec::new(), self.measure.try_choices);
+        let calls = Calls { file, memory, random, tally, relations, automata, index, record, try_choices };
+        let mut drive = Drive { calls, measure: self.measure, known: self.known.as_ref() };
+        let outcome = drive.run()?;
+        let record = drive.calls.record.take();
+        if file != bytes {
+            return Err(Disagreement { call: "all".into(), ours: "the file is changed".into(), theirs: String::new(), word: None });
+        }
+        Ok((outcome, record))
+    }
+
+    /// The same calls with the sinks written out, from the same random words: each answers and leaves the same.
+    fn hold_against_sinks(&self, gaps: &Record, mut random: Random, memory: &Memory, tally: &mut Tally) -> Compared<()> {
+        let Some(pair) = &self.pair else { return Ok(()) };
+        let driven = self.drive(&pair.sunk, &mut random, memory, tally, Some(Record::default()));
+        let (_, sunk) = driven.map_err(|found| Disagreement { call: format!("{}, with the sinks written out", found.call), ..found })?;
+        gaps.same(&sunk.unwrap_or_default())?;
+        let [with_gaps, open] = [&self.file, &pair.open].map(|file| searched(file, self.measure.budget));
+        tally.gaps.pair(pair.states, &with_gaps, &open);
+        Ok(())
     }
 
     /// A search that did not end may take long within the program's budget, and in large problems too long.

@@ -5,9 +5,9 @@ mod parts;
 mod trailer;
 
 use crate::draft::{below, Draft, LIMIT, NOTHING};
+use crate::gaps;
 use crate::generate::record;
 use crate::random::Random;
-use crate::rules;
 pub use change::Damage;
 use change::{Change, MOST_RECORDS};
 
@@ -26,7 +26,7 @@ pub fn sound(random: &mut Random) -> Draft {
     draft.numbers = random.words(numbers);
     for _ in 0..automata {
         let states = random.between(1, 6);
-        draft.machines.push(rules::any(random, symbols, states));
+        draft.machines.push(gaps::any(random, symbols, states));
     }
     for kind in 1..=random.between(1, 7) as u8 {
         draft.records.extend(record(random, kind, strings, numbers, automata));
@@ -45,7 +45,7 @@ pub fn sound_at_limits(random: &mut Random) -> Draft {
     draft.numbers = random.words(numbers);
     for _ in 0..automata {
         let states = *random.pick(&[32, 32, 32, 31, 1]);
-        draft.machines.push(rules::any(random, symbols, states));
+        draft.machines.push(gaps::any(random, symbols, states));
     }
     for at in 0..constraints {
         draft.records.extend(record(random, 1 + (at % 7) as u8, strings, numbers, automata));

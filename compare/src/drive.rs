@@ -30,7 +30,9 @@ impl Drive<'_> {
         let Ok(problem) = Problem::parse(self.calls.file) else {
             return self.refused_file().map(|()| None);
         };
+        self.calls.tally.gaps.problem(&problem);
         self.calls.relations = problem.constraints.clone();
+        self.calls.automata = problem.automata.clone();
         self.calls.unpack(problem.table.len())?;
         self.steps(&problem.header, &problem.table)?;
         self.index(&problem.header)?;

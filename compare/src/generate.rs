@@ -1,8 +1,8 @@
 //! Problems of any kind of constraint: small and dense ones, large ones, those at the limits, and those of many steps.
 
 use crate::draft::{any, below, just, Draft, Row, LIMIT, NOTHING};
+use crate::gaps;
 use crate::random::Random;
-use crate::rules;
 use second::relations::{Automaton, Relation};
 use second::Header;
 
@@ -66,7 +66,7 @@ fn problem(random: &mut Random, shape: &Shape) -> Draft {
     let mut draft = Draft::over(shape.symbols);
     for _ in 0..shape.automata {
         let states = random.between(1, shape.states);
-        draft.machines.push(rules::any(random, shape.symbols, states));
+        draft.machines.push(gaps::any(random, shape.symbols, states));
     }
     match random.below(5) {
         0 | 1 => loose(random, shape, draft),
@@ -186,7 +186,7 @@ pub fn record(random: &mut Random, kind: u8, strings: usize, numbers: usize, aut
     })
 }
 
-/// A row up to some length; at times with gaps, with lengths that cannot be filled, or with symbols past its longest string.
+/// A row up to some length; at times with a place without symbols, with lengths that cannot be filled, or with symbols past its longest string.
 fn row(random: &mut Random, shape: &Shape, share: usize) -> Row {
     let mut row = NOTHING;
     row[0] = random.subset(shape.longest + 1, share);
@@ -224,7 +224,7 @@ pub fn limits(random: &mut Random) -> Draft {
     let state_counts: &[usize] = *random.pick(&[&[32][..], &[32, 31, 1]]);
     for _ in 0..automata {
         let states = *random.pick(state_counts);
-        draft.machines.push(rules::any(random, symbols, states));
+        draft.machines.push(gaps::any(random, symbols, states));
     }
     if random.once_in(2) {
         return planted(random, &shape, draft);
@@ -238,7 +238,7 @@ pub fn limits(random: &mut Random) -> Draft {
     draft
 }
 
-/// Full, empty, of one long string, untidy, with a gap.
+/// Full, empty, of one long string, untidy, with a place without symbols.
 fn row_at_limits(random: &mut Random, symbols: usize) -> Row {
     let full = any(0, LIMIT - 1, below(symbols));
     let mut row = full;
@@ -301,7 +301,7 @@ mod tests {
         for index in 0..200 {
             let random = &mut Random::new(2, index);
             let mut draft = Draft::over(2);
-            draft.machines.push(rules::any(random, 2, 3));
+            draft.machines.push(gaps::any(random, 2, 3));
             let file = planted(random, &shape, draft).bytes();
             let words = second::read(&file).unwrap().words();
             let answer = second::search(&file, 65_536, &mut vec![0; 3 * words], &mut vec![0; words]);

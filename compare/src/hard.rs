@@ -98,7 +98,7 @@ fn lock(random: &mut Random) -> Draft {
     for _ in 0..random.between(3, 6) {
         let states = random.between(3, 8);
         let mut machine = rules::any(random, symbols, states);
-        let opened = if random.once_in(12) { random.below(states) } else { rules::end(&machine, symbols, &key) };
+        let opened = if random.once_in(12) { random.below(states) } else { rules::end(&machine, symbols, &key).expect("every move is there") };
         machine[1] = 1 << opened;
         let at = draft.machine(machine);
         draft.regular(string, at);

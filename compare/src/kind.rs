@@ -18,6 +18,8 @@ pub enum Kind {
     Late,
     Chain,
     Tree,
+    Gaps,
+    Pairs,
     Damaged,
     TwiceDamaged,
     DamagedLimits,
@@ -30,7 +32,7 @@ pub enum Kind {
 
 impl Kind {
     /// In the order above.
-    pub const ALL: [Kind; 18] = [
+    pub const ALL: [Kind; 20] = [
         Kind::Small,
         Kind::Suffix,
         Kind::Large,
@@ -41,6 +43,8 @@ impl Kind {
         Kind::Late,
         Kind::Chain,
         Kind::Tree,
+        Kind::Gaps,
+        Kind::Pairs,
         Kind::Damaged,
         Kind::TwiceDamaged,
         Kind::DamagedLimits,
@@ -63,6 +67,8 @@ impl Kind {
             Kind::Late => "late differences",
             Kind::Chain => "long chains",
             Kind::Tree => "known trees",
+            Kind::Gaps => "gaps",
+            Kind::Pairs => "gaps and sinks",
             Kind::Damaged => "damaged",
             Kind::TwiceDamaged => "damaged twice",
             Kind::DamagedLimits => "damaged at the limits",
@@ -77,7 +83,7 @@ impl Kind {
     /// In how many of 10,000 cases it is picked. The costly kinds are rare, since one of them takes as long as hundreds of small ones.
     fn share(self) -> usize {
         match self {
-            Kind::Small => 3380,
+            Kind::Small => 2980,
             Kind::Suffix => 200,
             Kind::Large => 250,
             Kind::Limits => 70,
@@ -87,6 +93,8 @@ impl Kind {
             Kind::Late => 500,
             Kind::Chain => 30,
             Kind::Tree => 10,
+            Kind::Gaps => 200,
+            Kind::Pairs => 200,
             Kind::Damaged => 1700,
             Kind::TwiceDamaged => 800,
             Kind::DamagedLimits => 900,

@@ -2,7 +2,7 @@
 
 use crate::draft::{any, below, just, Draft, Row, LIMIT};
 use crate::random::Random;
-use crate::rules;
+use crate::{gaps, rules};
 
 /// The longest string.
 const LONGEST: usize = LIMIT - 1;
@@ -89,7 +89,7 @@ fn ruled(random: &mut Random, draft: &mut Draft, string: &[u8], place: usize) {
     let x = draft.string(row);
     let machine = match random.below(2) {
         0 => rules::parity(draft.symbols, random.word() & below(draft.symbols), random.once_in(2)),
-        _ => rules::any(random, draft.symbols, 32),
+        _ => gaps::any(random, draft.symbols, 32),
     };
     let d = draft.machine(machine);
     draft.regular(x, d);

@@ -121,7 +121,7 @@ impl<T: Element> Lent<T> {
     }
 
     /// All that is looked at of the library's elements.
-    fn all_ours(&self) -> &[T] {
+    pub fn all_ours(&self) -> &[T] {
         unsafe { std::slice::from_raw_parts(self.ours, self.theirs.len()) }
     }
 

@@ -1,5 +1,6 @@
 //! Random words: xoshiro256**, started by splitmix64. A seed and an index give the same words everywhere.
 
+#[derive(Clone)]
 pub struct Random([u64; 4]);
 
 fn splitmix(state: &mut u64) -> u64 {

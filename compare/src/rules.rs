@@ -2,6 +2,7 @@
 
 use crate::draft::machine;
 use crate::random::Random;
+use second::relations::GAP;
 
 /// A part of a path rule: from `least` to `most` of these symbols one after the other, or any number from `least` on.
 #[derive(Clone, Copy)]
@@ -69,18 +70,21 @@ pub fn parity(symbols: usize, counted: u64, odd: bool) -> Vec<u8> {
     machine(2, if odd { 2 } else { 1 }, &moves)
 }
 
-/// The state in which the automaton in these bytes ends after the string.
-pub fn end(bytes: &[u8], symbols: usize, string: &[u8]) -> usize {
-    string.iter().fold(0, |state, &symbol| usize::from(bytes[5 + state * symbols + usize::from(symbol)]))
+/// The state in which the automaton in these bytes ends after the string, or none where a move is missing.
+pub fn end(bytes: &[u8], symbols: usize, string: &[u8]) -> Option<usize> {
+    string.iter().try_fold(0, |state, &symbol| match bytes[5 + state * symbols + usize::from(symbol)] {
+        GAP => None,
+        next => Some(usize::from(next)),
+    })
 }
 
 /// Whether it accepts the string.
 pub fn accepts(bytes: &[u8], symbols: usize, string: &[u8]) -> bool {
     let accepting = u32::from_le_bytes([bytes[1], bytes[2], bytes[3], bytes[4]]);
-    accepting >> end(bytes, symbols, string) & 1 == 1
+    end(bytes, symbols, string).is_some_and(|state| accepting >> state & 1 == 1)
 }
 
-/// Any automaton of so many states.
+/// Any automaton of so many states that has every move.
 pub fn any(random: &mut Random, symbols: usize, states: usize) -> Vec<u8> {
     let moves: Vec<u8> = (0..states * symbols).map(|_| random.below(states) as u8).collect();
     let share = random.between(1, 7);

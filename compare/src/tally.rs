@@ -1,6 +1,7 @@
 //! What has been compared, and whether anything never came up.
 
 use crate::by_index::ByIndex;
+use crate::gaps::Gaps;
 use crate::kind::Kind;
 use crate::patterns::Texts;
 use crate::trees::{Shape, BUSHY, DEEP, FAR};
@@ -88,6 +89,7 @@ pub struct Tally {
     /// Runs of the program.
     pub runs: u64,
     pub by_index: ByIndex,
+    pub gaps: Gaps,
     pub texts: Texts,
 }
 
@@ -173,9 +175,13 @@ impl Tally {
         }
     }
 
-    /// A file of this size, with its refusal.
-    pub fn file(&mut self, bytes: usize, refused: Option<u8>) {
+    /// A file, with its refusal.
+    pub fn file(&mut self, file: &[u8], refused: Option<u8>) {
+        let bytes = file.len();
         self.greatest(5, bytes as u64);
+        if refused == Some(5) {
+            self.gaps.refused(file);
+        }
         match refused {
             Some(4) if bytes > LARGEST_FILE => self.came_up(Event::OversizedLayout),
             Some(5) if bytes > LARGEST_FILE => self.came_up(Event::OversizedAutomata),
@@ -199,6 +205,7 @@ impl Tally {
         self.tried += other.tried;
         self.runs += other.runs;
         self.by_index.add(&other.by_index);
+        self.gaps.add(&other.gaps);
         self.texts.add(&other.texts);
     }
 
@@ -216,6 +223,7 @@ impl Tally {
             ("far out", named(&EVENTS[..events], &self.events)),
             ("greatest", named(&MAXIMA, &self.maxima)),
         ];
+        groups.extend(self.gaps.groups());
         groups.extend(self.by_index.groups());
         groups
     }
@@ -282,8 +290,16 @@ mod tests {
         tally.rounds(34);
         tally.list(401);
         let missing = tally.missing(true);
-        for name in ["searches: none", "refused: 12", "refused: 19", "runs of the program", "cases: small", "far out: rounds beyond 34", "indexes lent: right"]
-        {
+        for name in [
+            "searches: none",
+            "refused: 12",
+            "refused: 19",
+            "runs of the program",
+            "cases: small",
+            "far out: rounds beyond 34",
+            "indexes lent: right",
+            "automata: with few gaps",
+        ] {
             assert!(missing.contains(&name.to_string()), "{name} in {missing:?}");
         }
         for name in ["refused: 13", "refused: 18", "far out: lists beyond 400 calls", "greatest: rounds"] {
@@ -342,7 +358,7 @@ mod tests {
         let (mut one, mut other) = (Tally::default(), Tally::default());
         one.rounds(40);
         other.rounds(9);
-        other.file(LARGEST_FILE + 1, Some(5));
+        other.file(&[0; LARGEST_FILE + 1], Some(5));
         one.add(&other);
         assert_eq!((one.maxima[3], one.maxima[5]), (40, LARGEST_FILE as u64 + 1));
         assert_eq!(one.events[Event::OversizedAutomata as usize], 1);

@@ -1,6 +1,7 @@
 //! Template sets: names joined from parts and held to path rules, where two templates are asked for one name.
 
 use crate::draft::{any, below, just, Draft, LIMIT};
+use crate::gaps;
 use crate::random::Random;
 use crate::rules::{self, Block};
 
@@ -127,11 +128,12 @@ fn path_rule(random: &mut Random, alphabet: &Alphabet) -> Option<Vec<u8>> {
     rules::rule(symbols, &[before, slash, after])
 }
 
-/// Holds a string to a rule, if there is one and place for it, and mostly only if it accepts the piece that the string is made from.
+/// Holds a string to a rule, if there is one and place for it, and mostly only if it accepts the piece that the string is made from. Every other rule lists only
+/// the moves that exist.
 fn hold(random: &mut Random, draft: &mut Draft, string: u8, piece: &[u8], rule: Option<Vec<u8>>) {
     let Some(rule) = rule else { return };
     if draft.machines.len() < 8 && (rules::accepts(&rule, draft.symbols, piece) || random.once_in(8)) {
-        let at = draft.machine(rule);
+        let at = draft.machine(if random.once_in(2) { gaps::without_sink(&rule, draft.symbols) } else { rule });
         draft.regular(string, at);
     }
 }

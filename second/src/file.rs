@@ -2,7 +2,7 @@
 
 use crate::domain;
 use crate::header::Header;
-use crate::relations::{Automaton, Relation};
+use crate::relations::{Automaton, Relation, GAP};
 
 pub const LARGEST_FILE: usize = 25_024;
 const TRAILER: usize = 24;
@@ -113,7 +113,7 @@ fn parse_automata(bytes: &[u8], header: &Header) -> Option<Vec<Automaton>> {
             return None;
         }
         let rows = &after[4..4 + rows_size];
-        if rows.iter().any(|&q| usize::from(q) >= states) {
+        if !rows.iter().all(|&q| usize::from(q) < states || q == GAP) {
             return None;
         }
         automata.push(Automaton {

@@ -6,6 +6,7 @@ mod states;
 mod tree;
 mod words;
 
+use crate::relations::GAP;
 pub use tree::{symbol, Part, Pattern, LONGEST_TEXT};
 
 /// The automaton's bytes, for a buffer of `room` bytes. Refusals 14 to 17.
@@ -26,11 +27,12 @@ pub fn compile(text: &[u8], k: usize, room: usize) -> Result<Vec<u8>, u8> {
 }
 
 /// Where an automaton's bytes lead by a word; `None` if a symbol of it is not
-/// below k.
+/// below k, or a move is missing. Those that are compiled have every move.
 pub fn state_after(bytes: &[u8], k: usize, word: &[u8]) -> Option<usize> {
     word.iter().try_fold(0, |state, &symbol| {
         let symbol = usize::from(symbol);
-        (symbol < k).then(|| usize::from(bytes[5 + k * state + symbol]))
+        let next = (symbol < k).then(|| bytes[5 + k * state + symbol])?;
+        (next != GAP).then_some(usize::from(next))
     })
 }
 

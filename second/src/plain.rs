@@ -214,38 +214,8 @@ fn len(x: &Row, numbers: u64) -> Kept {
 }
 
 fn regular(x: &Row, automaton: &Automaton) -> Kept {
-    let states = automaton.next.len();
-    let in_set = |set: u32, q: usize| set >> q & 1 == 1;
-
-    // reached[i]: states after some i symbols that places 1 to i allow.
-    let mut reached = [0u32; 64];
-    reached[0] = 1;
-    for i in 1..64 {
-        for q in 0..states {
-            if in_set(reached[i - 1], q) {
-                for a in bits(x[i]) {
-                    reached[i] |= 1 << automaton.follow(q, a);
-                }
-            }
-        }
-    }
-
-    // ending[i]: states after i symbols from which the string can end
-    // accepted, here or at a later allowed length.
-    let mut ending = [0u32; 64];
-    for i in (0..64).rev() {
-        if domain::has(x[0], i) {
-            ending[i] = automaton.accepting;
-        }
-        if i < 63 {
-            for q in 0..states {
-                if bits(x[i + 1]).any(|a| in_set(ending[i + 1], automaton.follow(q, a))) {
-                    ending[i] |= 1 << q;
-                }
-            }
-        }
-    }
-
+    let reached = reached(x, automaton);
+    let ending = ending(x, automaton);
     let mut kept = EMPTY;
     for l in bits(x[0]) {
         if reached[l] & automaton.accepting != 0 {
@@ -254,9 +224,7 @@ fn regular(x: &Row, automaton: &Automaton) -> Kept {
     }
     for i in 1..64 {
         for a in bits(x[i]) {
-            let used = (0..states)
-                .any(|q| in_set(reached[i - 1], q) && in_set(ending[i], automaton.follow(q, a)));
-            if used {
+            if states(reached[i - 1]).any(|q| leads_into(automaton, q, a, ending[i])) {
                 kept[i] |= bit(a);
             }
         }
@@ -265,4 +233,50 @@ fn regular(x: &Row, automaton: &Automaton) -> Kept {
         rows: vec![kept],
         number: 0,
     }
+}
+
+/// At i the states after some i symbols that places 1 to i allow. Where no
+/// move exists none is reached: such a string is rejected, however it goes on.
+fn reached(x: &Row, automaton: &Automaton) -> [u32; 64] {
+    let mut reached = [0u32; 64];
+    reached[0] = 1;
+    for i in 1..64 {
+        for q in states(reached[i - 1]) {
+            for next in bits(x[i]).filter_map(|a| automaton.follow(q, a)) {
+                reached[i] |= 1 << next;
+            }
+        }
+    }
+    reached
+}
+
+/// At i the states after i symbols from which the string can end accepted,
+/// here or at a later allowed length.
+fn ending(x: &Row, automaton: &Automaton) -> [u32; 64] {
+    let mut ending = [0u32; 64];
+    for i in (0..64).rev() {
+        if domain::has(x[0], i) {
+            ending[i] = automaton.accepting;
+        }
+        if i < 63 {
+            for q in 0..automaton.next.len() {
+                if bits(x[i + 1]).any(|a| leads_into(automaton, q, a, ending[i + 1])) {
+                    ending[i] |= 1 << q;
+                }
+            }
+        }
+    }
+    ending
+}
+
+/// Whether there is a move, and it ends in a state of the set.
+fn leads_into(automaton: &Automaton, state: usize, symbol: usize, set: u32) -> bool {
+    automaton
+        .follow(state, symbol)
+        .is_some_and(|next| set >> next & 1 == 1)
+}
+
+/// The states of a set, lowest first.
+fn states(set: u32) -> impl Iterator<Item = usize> {
+    bits(u64::from(set))
 }

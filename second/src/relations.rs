@@ -90,8 +90,11 @@ fn is_part(x: &[u8], y: &[u8], n: usize) -> bool {
     1 <= n && n + y.len() - 1 <= x.len() && &x[n - 1..n - 1 + y.len()] == y
 }
 
+/// What stands in a row where "no move exists and the string is rejected".
+pub const GAP: u8 = 255;
+
 /// States are 0 to `next.len()` − 1, the first is 0; `next[q][a]` follows
-/// state q on symbol a.
+/// state q on symbol a, or is a gap.
 #[derive(Clone, Debug, PartialEq, Eq)]
 pub struct Automaton {
     pub accepting: u32,
@@ -99,8 +102,12 @@ pub struct Automaton {
 }
 
 impl Automaton {
-    pub fn follow(&self, state: usize, symbol: usize) -> usize {
-        usize::from(self.next[state][symbol])
+    /// "The move from a state by a symbol now gives a state or nothing."
+    pub fn follow(&self, state: usize, symbol: usize) -> Option<usize> {
+        match self.next[state][symbol] {
+            GAP => None,
+            next => Some(usize::from(next)),
+        }
     }
 
     pub fn is_accepting(&self, state: usize) -> bool {
@@ -110,7 +117,7 @@ impl Automaton {
     pub fn accepts(&self, x: &[u8]) -> bool {
         let end = x
             .iter()
-            .fold(0, |state, &a| self.follow(state, usize::from(a)));
-        self.is_accepting(end)
+            .try_fold(0, |state, &a| self.follow(state, usize::from(a)));
+        end.is_some_and(|state| self.is_accepting(state))
     }
 }

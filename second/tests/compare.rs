@@ -34,7 +34,7 @@ fn small_row(random: &mut Random, k: usize, longest: usize) -> Row {
             }
         }
         1 => {
-            // Lengths that cannot be filled, perhaps symbols beyond the gap.
+            // Lengths that cannot be filled, perhaps symbols beyond.
             for _ in 0..1 + random.below(3) {
                 row[0] |= 1 << (longest + 1 + random.below(63 - longest));
                 let i = longest + 2 + random.below(62 - longest);
@@ -58,13 +58,16 @@ fn small_number(random: &mut Random, longest: usize) -> u64 {
     }
 }
 
+/// Every other one with gaps, few or many.
 fn random_automaton(random: &mut Random, k: usize, most_states: usize) -> Vec<u8> {
+    let gaps = [0, 0, 1, 3][random.below(4)];
     let states = 1 + random.below(most_states);
     let mut bytes = vec![states as u8];
     let accepting = (random.word() & random.word()) as u32 & ((1u64 << states) - 1) as u32;
     bytes.extend(accepting.to_le_bytes());
     for _ in 0..states * k {
-        bytes.push(random.below(states) as u8);
+        let gap = random.below(4) < gaps;
+        bytes.push(if gap { 255 } else { random.below(states) as u8 });
     }
     bytes
 }

@@ -1,6 +1,6 @@
 /* Read and Unpack, spoiled. Most mistakes of Read are made by mending: the proved entry is given a copy in which all that the mistaken one does not see is
  * sound. */
-#include "standin.h"
+#include "gaps.h"
 
 #include <string.h>
 
@@ -115,8 +115,11 @@ static void mend_automaton(uint8_t *at, size_t moves, size_t which)
     if (planted == accepting_31 && at[0] == 31)
         at[4] &= 0x7f;
     for (size_t move = 5; move < 5 + moves; move++)
-        if ((planted == move_32 && at[0] == 32 && at[move] == 32) || (planted == automaton_last && which == 7))
+        if ((planted == move_32 && at[0] == 32 && at[move] == 32) || (planted == automaton_last && which == 7) || (planted == gap_254 && at[move] == 254) ||
+            (planted == gap_128 && at[move] >= 128))
             at[move] = 0;
+    if (planted == gap_behind)
+        mend_behind_gaps(at, copy.counts.symbols);
 }
 
 static void mend_automata(void)
@@ -258,6 +261,8 @@ static uint8_t in_order(uint8_t number, uint8_t mended)
 
 uint8_t cobleskeg_read(const uint8_t *file, size_t size, size_t *symbols, size_t *strings, size_t *numbers, size_t *automata, size_t *constraints)
 {
+    if (refuses_gaps(file, size))
+        return 5;
     uint8_t number = proved_read(file, size, symbols, strings, numbers, automata, constraints);
     if (planted == read_refused && number == 8)
         *symbols = counts_of(file, size).symbols;

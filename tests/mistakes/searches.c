@@ -1,5 +1,5 @@
 /* Search, spoiled. */
-#include "standin.h"
+#include "gaps.h"
 
 #include <string.h>
 
@@ -58,7 +58,8 @@ uint8_t cobleskeg_search(const uint8_t *file, size_t size, uint32_t budget, uint
         seen = 4096;
     if (planted == budget_short && budget > 3000 && budget < UINT32_MAX)
         seen = budget + 1;
-    uint8_t number = proved_search(file, size, seen, room, room_words, table, words, outcome, nodes);
+    const uint8_t *taken = planted == search_gap ? with_gaps_taken(file, size) : file;
+    uint8_t number = proved_search(taken, size, seen, room, room_words, table, words, outcome, nodes);
     if (number != 0)
         return refused(number, file, size, budget, room, room_words, table, words, outcome, nodes);
     if (planted == budget_short && *outcome == COBLESKEG_SPENT)

@@ -33,6 +33,8 @@ MISTAKES = [
     ("lengths: the mark is of another length", "modelling.py", "marks = {self.mark(name, lengths): lengths for", "marks = {self.mark(name, lengths): lengths >> 1 for"),
     ("classes: rules tell no letters apart", "classes.py", " + tuple(row[symbol] for row in columns)", ""),
     ("product: what one of two rules accepts", "machines.py", "paired(first, second, and_)", "paired(first, second, or_)"),
+    ("a gap leads back to the start", "machines.py", "sink if target == GAP else target", "0 if target == GAP else target"),
+    ("what is accepted whatever follows becomes a gap", "machines.py", "q == 0 or machine.accepting >> q & 1 or set(row) != {q}", "q == 0 or set(row) != {q}"),
     ("a counter ends one too early", "machines.py", "high and digit > last[place]:", "high and digit >= last[place]:"),
     ("split: the greatest length is left out", "equation.py", "for length in lengths_of(equation, name):", "for length in lengths_of(equation, name)[:-1]:"),
     ("split: the upper half of a letter begins one too late", "equation.py", "symbols[len(symbols) // 2 :])", "symbols[len(symbols) // 2 + 1 :])"),

@@ -41,6 +41,14 @@ struct counts counts_of(const uint8_t *file, size_t size)
     return counts;
 }
 
+size_t automaton_at(const uint8_t *file, struct counts counts, size_t which)
+{
+    size_t at = 8 * counts.words + 4 * counts.constraints;
+    for (size_t i = 0; i < which; i++)
+        at += 5 + file[at] * counts.symbols;
+    return at;
+}
+
 uint32_t bits_of(const uint64_t *words, size_t count)
 {
     uint32_t bits = 0;

@@ -24,6 +24,9 @@ struct counts {
 
 struct counts counts_of(const uint8_t *file, size_t size);
 
+/* Where an automaton begins in a sound file. */
+size_t automaton_at(const uint8_t *file, struct counts counts, size_t which);
+
 uint32_t bits_of(const uint64_t *words, size_t count);
 
 uint8_t proved_read(const uint8_t *file, size_t size, size_t *symbols, size_t *strings, size_t *numbers, size_t *automata, size_t *constraints);

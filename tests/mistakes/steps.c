@@ -1,5 +1,5 @@
 /* Step, spoiled: the proved entry has narrowed the table, and the mistake then gives back what was struck or strikes more. */
-#include "standin.h"
+#include "gaps.h"
 
 #include <string.h>
 
@@ -141,20 +141,29 @@ static void measured(uint64_t *table, size_t x, uint64_t *number)
     }
 }
 
-/* Regular is spoiled before it is taken: its row loses a symbol, or its automaton an accepting state. Answers the file to take it from. */
+/* Regular is spoiled before it is taken: its row loses a symbol, or its automaton an accepting state or its gaps. Answers the file to take it from. */
 static const uint8_t *ruled(const uint8_t *file, size_t size, struct counts counts, const uint8_t *record, uint64_t *table)
 {
     if (planted == regular_symbol_63)
         for (size_t i = 1; i < ROW; i++)
             table[ROW * record[1] + i] &= ~(UINT64_C(1) << 63);
-    if (planted != regular_state_31)
+    int takes = planted >= gap_to_0 && planted <= gap_to_31;
+    if (planted != regular_state_31 && !takes)
         return file;
+    uint8_t *automaton = changed + automaton_at(file, counts, record[2]);
     memcpy(changed, file, size);
-    size_t at = 8 * counts.words + 4 * counts.constraints;
-    for (size_t i = 0; i < record[2]; i++)
-        at += 5 + changed[at] * counts.symbols;
-    changed[at + 4] &= 0x7f;
+    if (takes)
+        take_gaps(automaton, counts.symbols);
+    else
+        automaton[4] &= 0x7f;
     return changed;
+}
+
+/* An automaton without moves accepts at most the empty string. */
+static void ruled_out(const uint8_t *file, struct counts counts, const uint8_t *record, uint64_t *table)
+{
+    if (planted == gap_empty && is_without_moves(file + automaton_at(file, counts, record[2]), counts.symbols))
+        table[ROW * record[1]] = 0;
 }
 
 static void spoiled(uint64_t *table, struct counts counts, const uint8_t *record)
@@ -179,6 +188,8 @@ static void accepted(const uint8_t *file, size_t size, size_t j, uint64_t *table
     memcpy(before, table, 8 * counts.words);
     const uint8_t *seen = j < counts.constraints && record[0] == 7 ? ruled(file, size, counts, record, table) : file;
     proved_step(seen, size, j, table, counts.words, struck);
+    if (j < counts.constraints && record[0] == 7)
+        ruled_out(file, counts, record, table);
     if (j < counts.constraints)
         spoiled(table, counts, record);
     else

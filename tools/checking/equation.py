@@ -7,7 +7,7 @@ from typing import NamedTuple
 
 from checking import machines
 from checking.setform import Domain
-from packing import EVERY, LIMIT, MOST
+from packing import EVERY, LIMIT
 from wording import bits
 
 # What may be switched off: the verdict stays, and takes longer or does not fit.
@@ -186,7 +186,7 @@ def multiplied(machines_given):
     made = []
     for machine in map(machines.minimal, machines_given):
         tried = machines.product(made[-1], machine) if made else None
-        if tried and len(tried.moves) <= MOST["states"]:
+        if tried and machines.fits(tried):
             made[-1] = tried
         else:
             made.append(machine)

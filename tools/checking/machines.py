@@ -1,10 +1,11 @@
-# Automata as values: state 0 is the start, `accepting` has bit q for state q, and moves[q][a] is the state behind symbol a. None of these functions decides a
-# question; they put several statements about one string into one, which the program then decides.
+# Automata as values: state 0 is the start, `accepting` has bit q for state q, and moves[q][a] is the state behind symbol a. A machine has every move: a gap of an
+# automaton leads to a sink here, and is a gap again in what the program is given. None of these functions decides a question; they put several statements
+# about one string into one, which the program then decides.
 from functools import cache
 from operator import and_, or_
 from typing import NamedTuple
 
-from packing import Automaton
+from packing import GAP, MOST, Automaton
 
 MOST_SETS = 2048  # sets of states that `determined` looks at before it gives up; far more than any automaton of a file could have
 
@@ -15,11 +16,29 @@ class Machine(NamedTuple):
 
 
 def of(automaton):
-    return Machine(automaton.accepting, tuple(tuple(row) for row in automaton.moves))
+    """The machine of an automaton; its gaps lead to a sink behind its states."""
+    sink = len(automaton.moves)
+    rows = [tuple(sink if target == GAP else target for target in row) for row in automaton.moves]
+    if any(sink in row for row in rows):
+        rows.append((sink,) * len(rows[0]))
+    return Machine(automaton.accepting, tuple(rows))
+
+
+def needed(machine):
+    """The states that an automaton of a file needs, in their order: all but sinks, since gaps say the same. The start stays, whatever it is."""
+    return [q for q, row in enumerate(machine.moves) if q == 0 or machine.accepting >> q & 1 or set(row) != {q}]
+
+
+def fits(machine):
+    """Whether a file has room for the machine."""
+    return len(needed(machine)) <= MOST["states"]
 
 
 def automaton(machine):
-    return Automaton([f"q{i}" for i in range(len(machine.moves))], machine.accepting, [list(row) for row in machine.moves])
+    states = needed(machine)
+    numbers = dict.fromkeys(range(len(machine.moves)), GAP) | {q: i for i, q in enumerate(states)}
+    accepting = sum(1 << i for i, q in enumerate(states) if machine.accepting >> q & 1)
+    return Automaton([f"q{i}" for i in range(len(states))], accepting, [[numbers[target] for target in machine.moves[q]] for q in states])
 
 
 def kinds(told):

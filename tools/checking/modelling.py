@@ -91,7 +91,7 @@ def joined(pieces, domains, uses, k):
         return Row(tuple(pieces), None, lengths, words[: LIMIT - 1], ())
     # Without anything behind the stretch of several lengths the row's own places have the letters, and the machine need not.
     machine = machines.determined(tuple(parts if behind else (unrestricted(part, k) for part in parts)), k)
-    return Row(tuple(pieces), None, lengths, words[: LIMIT - 1], (machine,)) if machine and len(machine.moves) <= MOST["states"] else None
+    return Row(tuple(pieces), None, lengths, words[: LIMIT - 1], (machine,)) if machine and machines.fits(machine) else None
 
 
 def unrestricted(part, k):

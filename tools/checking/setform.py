@@ -114,8 +114,8 @@ class Reader(Statements):
         machine = machines.counter(*runs[0], symbols, len(self.symbols))
         for run in runs[1:]:
             machine = machines.union(machine, machines.counter(*run, symbols, len(self.symbols)))
-        if len(machine.moves) > MOST["states"]:
-            raise line.wrong(f"the counter needs {len(machine.moves)} states, and an automaton has {MOST['states']} at most: expected fewer digits")
+        if not machines.fits(machine):
+            raise line.wrong(f"the counter needs {len(machines.needed(machine))} states, and an automaton has {MOST['states']} at most: expected fewer digits")
         return lengths, tuple(words), machine
 
     def rule(self, line):

@@ -29,7 +29,7 @@ pub enum BuildError {
     States(usize),
     /// A state whose moves are not as many as the symbols of the alphabet.
     Moves { state: usize, moves: usize },
-    /// A move that ends in no state of its automaton.
+    /// A next state that is no state of its automaton, and no gap.
     Next { state: usize, symbol: usize, next: u8 },
     /// An accepting state that is no state of its automaton.
     Accepting(u8),

@@ -1,6 +1,6 @@
 //! Problem files, built part by part.
 
-use crate::{compile, BuildError, Row, Values, LARGEST_AUTOMATON};
+use crate::{compile, BuildError, Row, Values, GAP, LARGEST_AUTOMATON};
 use std::sync::atomic::{AtomicU64, Ordering};
 
 const MOST_SYMBOLS: usize = 64;
@@ -113,7 +113,8 @@ impl Builder {
         Ok(NumberHandle(handle))
     }
 
-    /// An automaton that starts in state 0. `moves` has a row for each state, with the next state for each symbol of the alphabet.
+    /// An automaton that starts in state 0. `moves` has a row for each state, with the next state for each symbol of the alphabet, or [`GAP`] where there is no
+    /// move: a string that comes to a gap is rejected.
     ///
     /// [`BuildError::States`], [`BuildError::Moves`], [`BuildError::Next`], [`BuildError::Accepting`] where it is none, [`BuildError::Automata`] at the 9th.
     pub fn automaton<Next: AsRef<[u8]>>(&mut self, accepting: Values, moves: &[Next]) -> Result<AutomatonHandle, BuildError> {
@@ -210,7 +211,7 @@ impl Builder {
         if moves.len() != usize::from(self.symbols) {
             return Err(BuildError::Moves { state, moves: moves.len() });
         }
-        match moves.iter().position(|&next| next >= states) {
+        match moves.iter().position(|&next| next >= states && next != GAP) {
             Some(symbol) => Err(BuildError::Next { state, symbol, next: moves[symbol] }),
             None => Ok(()),
         }

@@ -55,6 +55,9 @@ pub const LONGEST_PATTERN: usize = 63;
 /// The bytes of the largest automaton, 32 states over 64 symbols.
 pub const LARGEST_AUTOMATON: usize = 2_053;
 
+/// In the place of a next state of an automaton: there is no move, and a string that comes there is rejected.
+pub const GAP: u8 = 255;
+
 /// The bytes of stack that a thread should have which calls [`search`], [`solve`], [`settle`], [`settle_by_index`], [`step`], [`perform`] or
 /// [`perform_by_index`]: more than twice what they were measured to take. The threads that Rust makes have more.
 pub const STACK: usize = 65_536;

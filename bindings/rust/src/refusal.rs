@@ -27,7 +27,7 @@ impl Refusal {
             2 => "the file does not end in the bytes TAIL",
             3 => "a count of the file is out of range, or bytes 6 and 7 of its trailer are not 0",
             4 => "the parts of the file do not lie one behind the other as its distances must say",
-            5 => "the automata of the file are not exactly as many as it counts, each with 1 to 32 states and every move to one of them",
+            5 => "the automata of the file are not exactly as many as it counts, each with 1 to 32 states and every next state one of them, or 255 for no move",
             6 => "a symbol word of the file's table has a bit at the count of symbols or above",
             7 => "a constraint has a kind outside 1 to 7, an argument that names nothing, or an unused one that is not 0",
             8 => "a constraint names one string twice",

@@ -1,6 +1,6 @@
 //! Each error of a builder, at its boundary from both sides, and that it leaves the builder as it was.
 
-use cobleskeg::{read, AutomatonHandle, BuildError, Builder, NumberHandle, Row, StringHandle, Values};
+use cobleskeg::{read, AutomatonHandle, BuildError, Builder, NumberHandle, Row, StringHandle, Values, GAP};
 
 type Built<T> = Result<T, BuildError>;
 
@@ -98,11 +98,15 @@ fn automata() -> Built<()> {
     assert_eq!(refused(&[], vec![vec![0, 0], vec![0]]), BuildError::Moves { state: 1, moves: 1 });
     assert_eq!(refused(&[], vec![vec![0, 0, 0], vec![0, 0]]), BuildError::Moves { state: 0, moves: 3 });
     assert_eq!(refused(&[], vec![vec![0, 1], vec![0, 2]]), BuildError::Next { state: 1, symbol: 1, next: 2 });
+    assert_eq!(refused(&[], vec![vec![0, GAP], vec![GAP - 1, 0]]), BuildError::Next { state: 1, symbol: 0, next: 254 });
+    assert_eq!(refused(&[], vec![vec![GAP, 32]; 32]), BuildError::Next { state: 0, symbol: 1, next: 32 });
     assert_eq!(refused(&[1, 2], vec![vec![0, 1], vec![0, 1]]), BuildError::Accepting(2));
     assert_eq!(refused(&[32], vec![vec![31, 31]; 32]), BuildError::Accepting(32));
     assert_eq!(problem.file(), file);
     problem.automaton(Values::of([0, 1])?, &[[0, 1], [1, 0]])?;
     problem.automaton(Values::of([31])?, &[[31, 31]; 32])?;
+    problem.automaton(Values::of([31])?, &[[GAP, 31]; 32])?;
+    problem.automaton(Values::of([0])?, &[[GAP; 2]])?;
     assert!(read(&problem.file()).is_ok());
     Ok(())
 }

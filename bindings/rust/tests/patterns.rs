@@ -1,6 +1,6 @@
 //! Patterns as text: automata put down by hand, each refusal at its boundary, and a builder that takes them.
 
-use cobleskeg::{compile, read, solve, Answer, AutomatonHandle, BuildError, Builder, Row, Values, LARGEST_AUTOMATON, LONGEST_PATTERN, STACK};
+use cobleskeg::{compile, read, solve, Answer, AutomatonHandle, BuildError, Builder, Row, Values, GAP, LARGEST_AUTOMATON, LONGEST_PATTERN, STACK};
 use std::thread;
 
 type Built<T> = Result<T, BuildError>;
@@ -60,6 +60,18 @@ fn first(automaton: impl Fn(&mut Builder) -> Built<AutomatonHandle>) -> Built<(V
     let file = problem.file();
     let answer = solve(&file, 9).unwrap();
     Ok((file, answer))
+}
+
+/// The strings of `(0|1)*0` of an even length, by gaps and by a sink; only the files differ.
+#[test]
+fn gaps_say_what_a_sink_says() -> Built<()> {
+    let gaps = first(|problem| problem.automaton(Values::of([2])?, &[[1, 1], [2, GAP], [GAP, GAP]]))?;
+    let sink = first(|problem| problem.automaton(Values::of([2])?, &[[1, 1], [2, 3], [3, 3], [3, 3]]))?;
+    assert_ne!(gaps.0, sink.0);
+    assert_eq!(gaps.1, sink.1);
+    let Answer::Found { strings, .. } = gaps.1 else { panic!("the string 00 is one") };
+    assert_eq!(strings, [[0, 0]]);
+    Ok(())
 }
 
 #[test]

@@ -1,6 +1,6 @@
 //! Builds at random, right and wrong calls mixed: `read` accepts whatever comes of them, with just what was added.
 
-use cobleskeg::{read, unpack, AutomatonHandle, BuildError, Builder, Counts, NumberHandle, Row, StringHandle, Values};
+use cobleskeg::{read, unpack, AutomatonHandle, BuildError, Builder, Counts, NumberHandle, Row, StringHandle, Values, GAP};
 
 const BUILDS: u64 = 600;
 
@@ -70,12 +70,13 @@ impl Build {
         Ok(())
     }
 
-    /// An automaton of 0 to 33 states; seldom with a row too long, a move too far or an accepting state too high.
+    /// An automaton of 0 to 33 states, with a gap here and there; seldom with a row too long, a move too far or an accepting state too high.
     fn automaton(&mut self, random: &mut Random) -> Result<(), BuildError> {
         let states = random.below(34);
         let ends = (states + usize::from(random.seldom(8))).max(1);
         let width = self.counts.symbols + usize::from(random.seldom(8));
-        let moves: Vec<Vec<u8>> = (0..states).map(|_| (0..width).map(|_| random.below(ends) as u8).collect()).collect();
+        let mut next = || if random.seldom(4) { GAP } else { random.below(ends) as u8 };
+        let moves: Vec<Vec<u8>> = (0..states).map(|_| (0..width).map(|_| next()).collect()).collect();
         let accepting = random.word() >> (64 - ends);
         self.automata.push(self.problem.automaton(Values::from_word(accepting), &moves)?);
         self.counts.automata += 1;

@@ -2,6 +2,7 @@
 
 use super::change::{on_draft, on_laid, Damage, MOST_RECORDS};
 use crate::draft::{below, Draft, Laid};
+use crate::gaps::{GAP, HEAD};
 use crate::generate::record;
 use crate::random::Random;
 use crate::rules;
@@ -38,7 +39,12 @@ fn automata() -> Vec<Damage> {
             machine[1 + bit / 8] |= 1 << (bit % 8);
         }),
         on_draft(5, |draft, random| spoil_move(draft, random, |states, _| states)),
-        on_draft(5, |draft, random| spoil_move(draft, random, |states, random| random.between(states.into(), 255) as u8)),
+        on_draft(5, |draft, random| spoil_move(draft, random, |states, random| random.between(states.into(), 254) as u8)),
+        on_draft(5, |draft, random| spoil_move(draft, random, |_, _| 254)),
+        on_draft(5, |draft, random| {
+            let gaps = *random.pick(&[1, 2, 8]);
+            spoil_gap(draft, random, gaps);
+        }),
         on_draft(5, |draft, random| last_machine(draft).push(random.byte())),
         on_draft(5, |draft, _| {
             let machine = last_machine(draft);
@@ -74,6 +80,16 @@ fn spoil_move(draft: &mut Draft, random: &mut Random, state: fn(u8, &mut Random)
     let at = *random.pick(&[5, machine.len() - 1, 5 + machine.len() / 2]);
     let at = at.min(machine.len() - 1);
     machine[at] = state(machine[0], random);
+}
+
+/// One move in so many is missing, and one that was is another state: the first that is none, the one below a gap, or any between them.
+fn spoil_gap(draft: &mut Draft, random: &mut Random, one_in: usize) {
+    let machine = one_machine(draft, random);
+    machine[HEAD..].iter_mut().filter(|_| random.once_in(one_in)).for_each(|next| *next = GAP);
+    let missing: Vec<usize> = (HEAD..machine.len()).filter(|&at| machine[at] == GAP).collect();
+    let at = if missing.is_empty() { HEAD } else { *random.pick(&missing) };
+    let any = random.between(machine[0].into(), 254) as u8;
+    machine[at] = *random.pick(&[machine[0], 254, any]);
 }
 
 /// 5: as many automata as there are, but another count.

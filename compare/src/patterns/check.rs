@@ -5,7 +5,7 @@ use super::{strings, Text, MOST_STATES};
 use crate::disagreement::{self, Compared, Disagreement};
 use crate::lent::{Lent, Memory};
 use crate::marked::Marked;
-use crate::{by_crate, ended, entries};
+use crate::{by_crate, ended, entries, gaps};
 use second::pattern::{automaton_accepts, compile, Pattern};
 
 /// One text in so many also goes through the function of the Rust crate.
@@ -19,6 +19,7 @@ impl Text {
         let states = self.meant.known.and_then(|known| known.states(self.symbols));
         self.as_formula(states, &theirs)?;
         if theirs.is_ok() {
+            self.no_gaps(&automaton)?;
             self.strings(&automaton, tally)?;
         }
         if self.random.once_in(CRATE_SHARE) {
@@ -65,6 +66,14 @@ impl Text {
         }
         let counted = theirs.as_ref().map_or_else(|number| format!("refused {number}"), |bytes| format!("{} states", bytes[0]));
         Err(Disagreement { call: format!("{}, by its formula", self.called()), ours: format!("{states} states"), theirs: counted, word: None })
+    }
+
+    /// A pattern's automaton has every move: the empty set is a state.
+    fn no_gaps(&self, automaton: &[u8]) -> Compared<()> {
+        match gaps::has_gaps(automaton) {
+            true => Err(Disagreement { call: self.called(), ours: "has gaps".into(), theirs: "has every move".into(), word: None }),
+            false => Ok(()),
+        }
     }
 
     /// What the library's automaton accepts is what the pattern stands for.

@@ -1,25 +1,27 @@
 -- The automata of a file, one after the other: the tests of refusal 5, and how the walk from one automaton to the next goes on. Assumes nothing.
 use mathlib.Core.Path.{_≡_, refl, sym, ap, subst, _∙_}
-use mathlib.Core.Bool.{Bool, true, false, false≢true}
+use mathlib.Core.Logic.{_⊎_, inl, inr, ⊎-elim}
+use mathlib.Core.Bool.{Bool, true, false, _||_, or-true, false≢true}
 use mathlib.Core.List.{List, [], _∷_}
 use mathlib.Core.Option.{Option, none, some, bind}
-use Prim.Native.Nat.{ℕ, zero, suc, _+_, _-_, _*_, _≤_, _<_}
+use Prim.Native.Nat.{ℕ, zero, suc, _+_, _-_, _*_, _%_, _≤_, _<_}
 use native.Mathlib.Nat.{le-of-eq}
 use native.Mathlib.Omega.{arith}
-use lib.Dec.{eqb, ltb}
+use lib.Dec.{eqb, leb, ltb}
 use lib.ListN.{length, getD, take, drop, length-drop}
 use lib.Seq.{getD-drop, take-all, drop-drop}
-use borrow.Author.Tests.{le-leb, ltb-true, lt-ltb, eqb-true, eqb-false, eq-eqb, ne-eqb}
+use borrow.Author.Tests.{le-leb, leb-true, lt-ltb, eqb-true, eqb-false, eq-eqb, ne-eqb}
 use Rattle.model.specs.Lists.{all, given}
 use Rattle.model.specs.Words.{noneFrom}
 use Rattle.model.specs.Constraints.{Automaton, noAutomaton}
-use Rattle.model.specs.Layout.{little, part}
-use Rattle.model.specs.Reading.{automaton, automataIn}
+use Rattle.model.specs.Layout.{Bytes, little, part}
+use Rattle.model.specs.Reading.{known, automaton, automataIn}
 use Rattle.laws.proofs.LayoutLaws.{part-length}
 use Rattle.laws.proofs.ListLaws.{given-some, bind-some, of-all, in-all, getD-in, in-getD}
+use Rattle.laws.proofs.WordLaws.{bool-ext}
 use Rattle.automata.specs.Machine.{stateCount, machine, Whole}
 use Rattle.automata.specs.Walk.{present, Held, Starts}
-use Rattle.automata.proofs.MachineLaws.{moves-byte, automaton-whole}
+use Rattle.automata.proofs.MachineLaws.{moves-byte, known-cases, automaton-whole}
 
 -- ---- values that may be missing
 
@@ -48,36 +50,67 @@ rest-lent at bs = take-all (length bs - at) (drop at bs) (le-of-eq (length-drop 
 
 -- ---- the moves
 
--- n bytes, from byte 5 on, are below q
-pub record Below (bs : List ℕ) (q n : ℕ) : Type 0 where
-  pub low : (j : ℕ) → j < n → getD bs (5 + j) 0 < q
+-- the greatest of n bytes from byte 5 on, each counted one higher, so that 255 counts as 0
+pub record Greatest (bs : List ℕ) (n top : ℕ) : Type 0 where
+  pub most : (j : ℕ) → j < n → (getD bs (5 + j) 0 + 1) % 256 ≤ top
+  pub here : (top ≡ 0) ⊎ ((j : ℕ) × (j < n) × (top ≡ (getD bs (5 + j) 0 + 1) % 256))
 
-pub below-none : (bs : List ℕ) (q : ℕ) → Below bs q 0
-below-none bs q = record { low = λ j h. absurd (omega arith) }
+pub greatest-none : (bs : List ℕ) → Greatest bs 0 0
+greatest-none bs = record { most = λ j h. absurd (omega arith); here = inl refl }
 
-pub below-next : (bs : List ℕ) (q n : ℕ) → Below bs q n → getD bs (5 + n) 0 < q → Below bs q (n + 1)
-below-next bs q n b h = record { low = λ j l. go j l (eqb j n) refl }
-  where
-    go : (j : ℕ) → j < n + 1 → (t : Bool) → eqb j n ≡ t → getD bs (5 + j) 0 < q
-    go j l true e = subst (λ (m : ℕ). getD bs (5 + m) 0 < q) (sym (eqb-true j n e)) h
-    go j l false e = let ne = eqb-false j n e in b .low j (omega arith)
-
-module _ (bs : List ℕ) (q n : ℕ) (long : 5 + n ≤ length bs) where
-  pub all-below : Below bs q n → all (λ p. ltb p q) (part 5 n bs) ≡ true
-  all-below b = in-all (λ p. ltb p q) (part 5 n bs) (λ p m.
-      let t = in-getD (part 5 n bs) 0 m in
-      let h : t .0 < n = subst (λ (l : ℕ). t .0 < l) (part-length 5 n bs long) (t .1) in
-      lt-ltb p q (subst (λ (x : ℕ). x < q) (sym (moves-byte n bs (t .0) h) ∙ t .2) (b .low (t .0) h)))
-
-  pub one-above : (j : ℕ) → j < n → q ≤ getD bs (5 + j) 0 → all (λ p. ltb p q) (part 5 n bs) ≡ false
-  one-above j h l = go (all (λ p. ltb p q) (part 5 n bs)) refl
+module _ (bs : List ℕ) (n top more : ℕ) (g : Greatest bs n top) (e : more ≡ (getD bs (5 + n) 0 + 1) % 256) where
+  one-most : (new : ℕ) → top ≤ new → more ≤ new → (j : ℕ) → j < n + 1 → (getD bs (5 + j) 0 + 1) % 256 ≤ new
+  one-most new h l j m = go (eqb j n) refl
     where
-      go : (t : Bool) → all (λ p. ltb p q) (part 5 n bs) ≡ t → t ≡ false
-      go true e =
-          let m : j < length (part 5 n bs) = subst (λ (s : ℕ). j < s) (sym (part-length 5 n bs long)) h in
-          let x = ltb-true (getD (part 5 n bs) j 0) q (of-all (λ p. ltb p q) e (getD-in (part 5 n bs) j 0 m)) in
-          absurd (omega (arith, moves-byte n bs j h))
-      go false e = refl
+      go : (t : Bool) → eqb j n ≡ t → (getD bs (5 + j) 0 + 1) % 256 ≤ new
+      go true z = subst (λ (i : ℕ). (getD bs (5 + i) 0 + 1) % 256 ≤ new) (sym (eqb-true j n z)) (subst (λ (v : ℕ). v ≤ new) e l)
+      go false z = let d = eqb-false j n z in let b = g .most j (omega arith) in omega arith
+
+  pub greatest-new : top < more → Greatest bs (n + 1) more
+  greatest-new h = record { most = one-most more (omega arith) (omega arith); here = inr (n, omega arith, e) }
+
+  pub greatest-old : more ≤ top → Greatest bs (n + 1) top
+  greatest-old h = record {
+    most = one-most top (omega arith) h;
+    here = ⊎-elim inl (λ y. inr (y .0, (let l = y .1 in omega arith), y .2)) (g .here);
+  }
+
+pub greatest-small : (bs : List ℕ) (n top : ℕ) → Greatest bs n top → top < 256
+greatest-small bs n top g = ⊎-elim (λ z. let h : top < 256 = omega arith in h) (λ y. let e = y .2 in let h : top < 256 = omega arith in h) (g .here)
+
+-- one more than a byte, as bytes count, is at most q just when the byte is below q or 255
+byte-below : (q b : ℕ) → b < 256 → known q b ≡ leb ((b + 1) % 256) q
+unfolding known
+byte-below q b h = bool-ext (known q b) (leb ((b + 1) % 256) q)
+    (λ e. le-leb ((b + 1) % 256) q (⊎-elim (λ l. let n : (b + 1) % 256 ≤ q = omega arith in n) (λ z. let n : (b + 1) % 256 ≤ q = omega arith in n) (known-cases q b e)))
+    (λ e. let l = leb-true ((b + 1) % 256) q e in go (eqb b 255) refl l)
+  where
+    go : (t : Bool) → eqb b 255 ≡ t → (b + 1) % 256 ≤ q → (ltb b q || t) ≡ true
+    go true e l = or-true (ltb b q)
+    go false e l = let d = eqb-false b 255 e in ap (λ (t : Bool). t || false) (lt-ltb b q (omega arith))
+
+module _ (bs : List ℕ) (q n : ℕ) (long : 5 + n ≤ length bs) (bytes : Bytes bs) where
+  pub all-known : (top : ℕ) → Greatest bs n top → leb top q ≡ all (known q) (part 5 n bs)
+  all-known top g = bool-ext (leb top q) (all (known q) (part 5 n bs)) yes no
+    where
+      at : (j : ℕ) → j < n → known q (getD (part 5 n bs) j 0) ≡ leb ((getD bs (5 + j) 0 + 1) % 256) q
+      at j h = ap (known q) (moves-byte n bs j h) ∙ byte-below q (getD bs (5 + j) 0) (bytes (5 + j))
+
+      yes : leb top q ≡ true → all (known q) (part 5 n bs) ≡ true
+      yes e = in-all (known q) (part 5 n bs) (λ b m.
+          let t = in-getD (part 5 n bs) 0 m in
+          let h : t .0 < n = subst (λ (l : ℕ). t .0 < l) (part-length 5 n bs long) (t .1) in
+          let l = leb-true top q e in
+          let k = g .most (t .0) h in
+          ap (known q) (sym (t .2)) ∙ at (t .0) h ∙ le-leb ((getD bs (5 + t .0) 0 + 1) % 256) q (omega arith))
+
+      no : all (known q) (part 5 n bs) ≡ true → leb top q ≡ true
+      no e = ⊎-elim
+          (λ z. le-leb top q (omega arith))
+          (λ y.
+          let m : y .0 < length (part 5 n bs) = subst (λ (s : ℕ). y .0 < s) (sym (part-length 5 n bs long)) (y .1) in
+          ap (λ (v : ℕ). leb v q) (y .2) ∙ sym (at (y .0) (y .1)) ∙ of-all (known q) e (getD-in (part 5 n bs) (y .0) 0 m))
+          (g .here)
 
 -- ---- one automaton
 
@@ -95,7 +128,7 @@ module _ (k : ℕ) (bs : List ℕ) where
 
   -- q states with the accepting set a, where all but the moves is as it must be: the moves decide
   pub whole-by-moves : (q a : ℕ) → q ≡ stateCount bs → a ≡ little (part 1 4 bs) → 1 ≤ q → q ≤ 32 → 5 + q * k ≤ length bs → noneFrom q a ≡ true
-      → all (λ p. ltb p q) (part 5 (q * k) bs) ≡ present (automaton k bs)
+      → all (known q) (part 5 (q * k) bs) ≡ present (automaton k bs)
   unfolding automaton
   whole-by-moves q a e f h₁ h₂ h₃ z = sym (present-given _ _ ∙ rw (← e, ← f, le-leb 1 q h₁, le-leb q 32 h₂, le-leb (5 + q * k) (length bs) h₃, z) refl)
 

@@ -8,12 +8,15 @@ use lib.Bits.{bitAnd, bitOr}
 use lib.Dec.{eqb}
 use borrow.Author.Tests.{eqb-true}
 use Rattle.model.specs.Words.{bit}
-use Rattle.model.specs.Constraints.{Automaton, move}
+use mathlib.Core.Option.{Option}
+use Rattle.model.specs.Constraints.{Automaton, move, holds}
 use Rattle.laws.proofs.ListLaws.{true-and}
 use Rattle.laws.proofs.WordLaws.{zero-bit, pow-self, pow-only, or-bit-left, or-bit-right, of-or-bit, bit-high, bit-sub, sub-within}
 use Rattle.laws.proofs.ShiftLaws.{and-bit, of-and-bit}
 use Rattle.words.specs.Ends.{Lowest}
+use Rattle.automata.specs.Machine.{markOf}
 use Rattle.automata.specs.StateSets.{Gathered, Found, LowBits, Moves, Enters, Successors}
+use Rattle.automata.proofs.MachineLaws.{mark-holds}
 
 -- a word that is 0 has no bit
 pub no-bit : (w i : ℕ) → w ≡ 0 → bit w i ≡ true → ⊥
@@ -97,40 +100,43 @@ module _ (n w : ℕ) (E : ℕ → ℕ → Type 0) (rest r : ℕ) where
 
 -- ---- loops that stop at the first bit that leads into a set: as long as they go on, nothing is gathered
 
--- bit i of w leads into the set by f
-abbrev pub Hit : ℕ → ℕ → (ℕ → ℕ) → ℕ → Type 0
-Hit w set f i = (bit w i ≡ true) × (bit set (f i) ≡ true)
+-- bit i of w leads into the set by the move f
+abbrev pub Hit : ℕ → ℕ → (ℕ → Option ℕ) → ℕ → Type 0
+Hit w set f i = (bit w i ≡ true) × (holds set (f i) ≡ true)
 
-module _ (n w set : ℕ) (f : ℕ → ℕ) (rest : ℕ) (g : Walked n w (λ i t. Hit w set f i) rest 0) where
+module _ (n w set : ℕ) (f : ℕ → Option ℕ) (rest : ℕ) (g : Walked n w (λ i t. Hit w set f i) rest 0) where
   pub hit-none : rest ≡ 0 → Found n (Hit w set f) false
   hit-none e = record {
     sound = λ q. absurd (false≢true q);
     complete = λ i h x. absurd (no-bit 0 0 refl (walked-end n w (λ i t. Hit w set f i) rest 0 e g .complete 0 i h x));
   }
 
-  module _ (a m : ℕ) (low : Lowest rest a) (q : m ≡ f a) where
+  module _ (a m : ℕ) (small : set < 2 ^ 32) (low : Lowest rest a) (q : m ≡ markOf (f a)) where
+    there : bit set m ≡ holds set (f a)
+    there = ap (bit set) q ∙ mark-holds set (f a) small
+
     pub hit-one : bit set m ≡ true → Found n (Hit w set f) true
-    hit-one h = record { sound = λ t. (a, walked-next n w _ rest 0 a g low, (g .known a (low .here) .1, ap (bit set) (sym q) ∙ h)); complete = λ i l x. refl }
+    hit-one h = record { sound = λ t. (a, walked-next n w _ rest 0 a g low, (g .known a (low .here) .1, sym there ∙ h)); complete = λ i l x. refl }
 
     pub hit-skip : (o : ℕ) → o ≡ 2 ^ a → bit set m ≡ false → Walked n w (λ i t. Hit w set f i) (rest - o) 0
-    hit-skip o e h = walked-skip n w _ rest 0 a o g low e (λ t x. false≢true (sym h ∙ ap (bit set) q ∙ x .1))
+    hit-skip o e h = walked-skip n w _ rest 0 a o g low e (λ t x. false≢true (sym h ∙ there ∙ x .1))
 
 -- ---- the loops over the states of a set and over the symbols of a word
 
--- what symbol a of the word gives: the state that p moves to
+-- what symbol a of the word gives: the bit of the move from p
 abbrev pub BySymbol : Automaton → ℕ → ℕ → ℕ → ℕ → Type 0
-BySymbol A p symbols a t = (bit symbols a ≡ true) × (move A p a ≡ t)
+BySymbol A p symbols a t = (bit symbols a ≡ true) × (markOf (move A p a) ≡ t)
 
--- what state p of the set gives: the states that it moves to by a symbol of the word
+-- what state p of the set gives: the bits of its moves by a symbol of the word
 abbrev pub ByState : Automaton → ℕ → ℕ → ℕ → ℕ → ℕ → Type 0
-ByState A k set symbols p t = (bit set p ≡ true) × ((a : ℕ) × (a < k) × (bit symbols a ≡ true) × (move A p a ≡ t))
+ByState A k set symbols p t = (bit set p ≡ true) × ((a : ℕ) × (a < k) × (bit symbols a ≡ true) × (markOf (move A p a) ≡ t))
 
 -- what state p of the first set gives: itself, if it moves into the second by a symbol of the word
 abbrev pub ByEntering : Automaton → ℕ → ℕ → ℕ → ℕ → ℕ → ℕ → Type 0
-ByEntering A k from into symbols p t = (p ≡ t) × (bit from p ≡ true) × ((a : ℕ) × (a < k) × (bit symbols a ≡ true) × (bit into (move A p a) ≡ true))
+ByEntering A k from into symbols p t = (p ≡ t) × (bit from p ≡ true) × ((a : ℕ) × (a < k) × (bit symbols a ≡ true) × (holds into (move A p a) ≡ true))
 
 module _ (A : Automaton) (k symbols : ℕ) where
-  pub moves-add : (p rest r a o m u : ℕ) → Walked k symbols (BySymbol A p symbols) rest r → Lowest rest a → o ≡ 2 ^ a → m ≡ move A p a → u ≡ 2 ^ m
+  pub moves-add : (p rest r a o m u : ℕ) → Walked k symbols (BySymbol A p symbols) rest r → Lowest rest a → o ≡ 2 ^ a → m ≡ markOf (move A p a) → u ≡ 2 ^ m
       → Walked k symbols (BySymbol A p symbols) (rest - o) (bitOr u r)
   moves-add p rest r a o m u g low e n f = rw f (walked-one k symbols _ rest r a o g low e m (g .known a (low .here) .1, sym n) (λ t x. n ∙ x .1))
 

@@ -12,15 +12,18 @@ use lib.ListN.{length, set, length-set}
 use lib.Seq.{getD-set-same, getD-set-other}
 use borrow.Author.Tests.{eqb-true, eqb-false, lt-ltb}
 use Rattle.model.specs.Words.{bit, word, noneFrom}
-use Rattle.model.specs.Constraints.{Automaton, move}
+use mathlib.Core.Option.{Option, none, some, Option·none-ne-some}
+use Rattle.model.specs.Constraints.{Automaton, move, holds}
 use Rattle.laws.specs.Inclusion.{Within}
-use Rattle.laws.proofs.WordLaws.{in-bits, noneFrom-bits, or-bit-left, or-bit-right, of-or-bit, bit-high}
+use Rattle.laws.proofs.ListLaws.{never-true, never-false}
+use Rattle.laws.proofs.WordLaws.{in-bits, noneFrom-bits, pow-self, or-bit-left, or-bit-right, of-or-bit, bit-high, no-bits}
 use Rattle.laws.proofs.ShiftLaws.{and-bit, of-and-bit, bit-flip, bit-mask}
 use Rattle.words.specs.Ends.{Lowest}
 use Rattle.words.proofs.EndLaws.{lowest-trailing}
-use Rattle.automata.specs.Machine.{stateCount, machine, Whole}
-use Rattle.automata.specs.StateSets.{Gathered, Moves, Enters, Successors, By, Added, Steps, Targets, Forgotten}
-use Rattle.automata.proofs.MachineLaws.{move-known}
+use Rattle.automata.specs.Machine.{stateCount, machine, markOf, Whole}
+use Rattle.automata.specs.StateSets.{Gathered, Moves, Enters, Successors, By, Added, Steps, Targets, Most, Forgotten}
+use Rattle.automata.specs.Kinds.{Lacks}
+use Rattle.automata.proofs.MachineLaws.{Below, move-known, mark-small, mark-holds, mark-some, holds-state}
 use Rattle.automata.proofs.SetLaws.{no-bit, Walked, walked-step, walked-skip, walked-one, ByState, ByEntering}
 
 -- ---- words without others
@@ -54,6 +57,13 @@ module _ (D : Automaton) (q k symbols : ℕ) where
         go o l false z =
             subst (λ (w : ℕ). (w ≡ 0) ⊎ Moves D k o symbols w) (sym (getD-set-other tos p o r 0 (eqb-false o p z))) (g .each o l)
 
+-- by no symbol nothing is kept, so that the sets belong to any word
+pub targets-unasked : (D : Automaton) (q k r : ℕ) (tos : List ℕ) → Targets D q k 0 tos → Targets D q k r tos
+targets-unasked D q k r tos g = record {
+  size = g .size;
+  each = λ p l. inl (⊎-elim (λ z. z) (λ m. no-bits (word tos p) (λ b. never-true (bit (word tos p) b) (λ y. no-bit 0 (m .sound b y .0) refl (m .sound b y .2 .0)))) (g .each p l));
+}
+
 pub forgotten-turn : (tos : List ℕ) (i : ℕ) → i < length tos → ((p : ℕ) → p < i → word tos p ≡ 0) → (p : ℕ) → p < i + 1 → word (set tos i 0) p ≡ 0
 forgotten-turn tos i h f p l = go (eqb p i) refl
   where
@@ -61,46 +71,73 @@ forgotten-turn tos i h f p l = go (eqb p i) refl
     go true z = rw (eqb-true p i z) (getD-set-same tos i 0 0 h)
     go false z = let y = eqb-false p i z in getD-set-other tos i p 0 0 y ∙ f p (omega arith)
 
--- ---- forwards, where all states are found
+-- ---- forwards, where all is found
 
-pub successors-all : (k : ℕ) (bs : List ℕ) → Whole k bs → (set symbols rest r all : ℕ) → Walked (stateCount bs) set
-    (ByState (machine k bs) k set symbols) rest r
-    → all ≡ 2 ^ (stateCount bs - 1 + 1) - 1 → r ≡ all → Successors (machine k bs) (stateCount bs) k set symbols r
-successors-all k bs w set symbols rest r all g e f = record {
-  sound = λ t b. let y = g .sound t b in let z = y .2 .1 in (z .0, z .1, (z .2, (y .0, y .1, y .2 .0, z .3)));
-  complete = λ t a h x.
-      let y = x .1 in
-      let q = w .some-state in
-      let n : stateCount bs - 1 + 1 ≡ stateCount bs = omega arith in
-      let l : t < stateCount bs = subst (λ (s : ℕ). s < stateCount bs) (y .3) (move-known k bs w (y .0) a (y .1) h) in
-      ap (λ (v : ℕ). bit v t) (f ∙ e ∙ ap (λ (m : ℕ). 2 ^ m - 1) n) ∙ bit-mask (stateCount bs) t ∙ lt-ltb t (stateCount bs) l;
+states-low : (q t : ℕ) → 1 ≤ q → t < q → bit (2 ^ (q - 1 + 1) - 1) t ≡ true
+states-low q t h l =
+    let n : q - 1 + 1 ≡ q = omega arith in
+    ap (λ (m : ℕ). bit (2 ^ m - 1) t) n ∙ bit-mask q t ∙ lt-ltb t q l
+
+pub most-total : (q symbols lacking all : ℕ) → 1 ≤ q → bitAnd symbols lacking ≡ 0 → all ≡ 2 ^ (q - 1 + 1) - 1 → Most q symbols lacking all
+most-total q symbols lacking all h z e = record {
+  states = λ t l. rw e (states-low q t h l);
+  mark = λ a x y. absurd (no-bit (bitAnd symbols lacking) a z (and-bit symbols lacking a x y));
 }
+
+pub most-marked : (q symbols lacking all m : ℕ) → 1 ≤ q → m ≡ 2 ^ 63 → all ≡ 2 ^ (q - 1 + 1) - 1 → Most q symbols lacking (bitOr m all)
+most-marked q symbols lacking all m h u e = record {
+  states = λ t l. or-bit-right m all t (rw e (states-low q t h l));
+  mark = λ a x y. or-bit-left m all 63 (rw u (pow-self 63));
+}
+
+module _ (k : ℕ) (bs : List ℕ) (w : Whole k bs) (set symbols lacking : ℕ) (l : Lacks (machine k bs) (stateCount bs) k lacking) where
+  abbrev D₁ : Automaton
+  D₁ = machine k bs
+
+  -- whatever a state moves to by a symbol of the word, is one of all
+  found-all : (all : ℕ) → Most (stateCount bs) symbols lacking all → (p a : ℕ) → p < stateCount bs → a < k → bit symbols a ≡ true
+      → bit all (markOf (move D₁ p a)) ≡ true
+  unfolding markOf
+  found-all all m p a h i x = go (move D₁ p a) refl
+    where
+      go : (n : Option ℕ) → move D₁ p a ≡ n → bit all (markOf n) ≡ true
+      go none e = m .mark a x (never-false (bit lacking a) (λ b. let t = l .total a i b .each p h in Option·none-ne-some (t .0) (sym e ∙ t .1)))
+      go (some t) e = m .states t (move-known k bs w p a h i t e)
+
+  pub successors-all : (rest r all : ℕ) → Walked (stateCount bs) set (ByState D₁ k set symbols) rest r → Most (stateCount bs) symbols lacking all → r ≡ all
+      → Successors D₁ (stateCount bs) k set symbols r
+  successors-all rest r all g m f = record {
+    sound = λ t b. let y = g .sound t b in let z = y .2 .1 in (z .0, z .1, (z .2, (y .0, y .1, y .2 .0, z .3)));
+    complete = λ t a h x.
+        let y = x .1 in
+        ap (λ (v : ℕ). bit v t) f ∙ subst (λ (s : ℕ). bit all s ≡ true) (y .3) (found-all all m (y .0) a (y .1) h (x .0));
+  }
 
 -- ---- one state, backwards
 
-pub move-small : (k : ℕ) (bs : List ℕ) → Whole k bs → (p : ℕ) → p < stateCount bs → (a : ℕ) → a < k → move (machine k bs) p a < 32
-move-small k bs w p h a l = let m = move-known k bs w p a h l in let q = w .most-states in omega arith
-
 -- what symbol a of the word gives: itself, if p moves into the set by it
 abbrev pub ByInto : Automaton → ℕ → ℕ → ℕ → ℕ → ℕ → Type 0
-ByInto D p into symbols a t = (a ≡ t) × (bit symbols a ≡ true) × (bit into (move D p a) ≡ true)
+ByInto D p into symbols a t = (a ≡ t) × (bit symbols a ≡ true) × (holds into (move D p a) ≡ true)
 
 module _ (D : Automaton) (k p into symbols rest r a o m s : ℕ) (b : Bool) (g : Walked k symbols (ByInto D p into symbols) rest r) (low : Lowest rest a)
     (e : o ≡ 2 ^ a)
-    (n : m ≡ move D p a) (h : b ≡ bit into m) where
+    (small : into < 2 ^ 32) (n : m ≡ markOf (move D p a)) (h : b ≡ bit into m) where
+  enters : b ≡ holds into (move D p a)
+  enters = h ∙ ap (bit into) n ∙ mark-holds into (move D p a) small
+
   pub by-skip : b ≡ false → s ≡ r → Walked k symbols (ByInto D p into symbols) (rest - o) s
-  by-skip q f = rw f (walked-skip k symbols _ rest r a o g low e (λ t x. false≢true (sym q ∙ h ∙ ap (bit into) n ∙ x .2)))
+  by-skip q f = rw f (walked-skip k symbols _ rest r a o g low e (λ t x. false≢true (sym q ∙ enters ∙ x .2)))
 
   pub by-add : b ≡ true → s ≡ bitOr o r → Walked k symbols (ByInto D p into symbols) (rest - o) s
   by-add q f =
       let v : s ≡ bitOr (2 ^ a) r = f ∙ ap (λ (i : ℕ). bitOr i r) e in
-      rw v (walked-one k symbols _ rest r a o g low e a (refl, g .known a (low .here) .1, ap (bit into) (sym n) ∙ sym h ∙ q) (λ t x. x .0))
+      rw v (walked-one k symbols _ rest r a o g low e a (refl, g .known a (low .here) .1, sym enters ∙ q) (λ t x. x .0))
 
 module _ (D : Automaton) (k p into symbols found : ℕ) where
   -- what is kept for the state
   module _ (to : ℕ) (m : Moves D k p symbols to) where
-    to-there : (a : ℕ) → a < k → bit symbols a ≡ true → bit to (move D p a) ≡ true
-    to-there a l x = m .complete (move D p a) a l (x, refl)
+    to-there : (a : ℕ) → a < k → bit symbols a ≡ true → bit to (markOf (move D p a)) ≡ true
+    to-there a l x = m .complete (markOf (move D p a)) a l (x, refl)
 
     pub added-none : bitAnd to into ≡ 0 → Added D k p into symbols found false found
     added-none z = record {
@@ -110,19 +147,25 @@ module _ (D : Automaton) (k p into symbols found : ℕ) where
       complete = λ a l x y. absurd (never a l x y);
     }
       where
-        never : (a : ℕ) → a < k → bit symbols a ≡ true → bit into (move D p a) ≡ true → ⊥
-        never a l x y = no-bit (bitAnd to into) (move D p a) z (and-bit to into (move D p a) (to-there a l x) y)
+        never : (a : ℕ) → a < k → bit symbols a ≡ true → holds into (move D p a) ≡ true → ⊥
+        never a l x y =
+            let t = holds-state into (move D p a) y in
+            let b = subst (λ (i : ℕ). bit to i ≡ true) (mark-some (move D p a) (t .0) (t .1)) (to-there a l x) in
+            no-bit (bitAnd to into) (t .0) z (and-bit to into (t .0) b (t .2))
 
-    module _ (small : into < 2 ^ 32) (some : bitAnd to into ≢ 0) where
+    module _ (small : into < 2 ^ 32) (shared : bitAnd to into ≢ 0) where
       to-enters : Enters D k p into symbols true
       to-enters =
           let h = and-le-r to into in
-          let b = some-of (bitAnd to into) (omega arith) some in
+          let b = some-of (bitAnd to into) (omega arith) shared in
           let t = of-and-bit to into (b .0) (b .1) in
           let y = m .sound (b .0) (t .0) in
-          record { sound = λ e. (y .0, y .1, (y .2 .0, ap (bit into) (y .2 .1) ∙ t .1)); complete = λ a l x. refl }
+          record {
+            sound = λ e. (y .0, y .1, (y .2 .0, sym (mark-holds into (move D p (y .0)) small) ∙ ap (bit into) (y .2 .1) ∙ t .1));
+            complete = λ a l x. refl;
+          }
 
-      pub added-all : ((a : ℕ) → a < k → move D p a < 32) → bitAnd to (2 ^ 32 - 1 - into) ≡ 0 → symbols < 2 ^ 64 → noneFrom k symbols ≡ true
+      pub added-all : ((a : ℕ) → a < k → Below 63 (move D p a)) → bitAnd to (2 ^ 64 - 1 - into) ≡ 0 → symbols < 2 ^ 64 → noneFrom k symbols ≡ true
           → Within found symbols
           → Added D k p into symbols found true symbols
       added-all known z f e w = record { whether = to-enters; sound = λ a y. inr (low a y, y, inside a (low a y) y); keeps = w; complete = λ a l x y. x }
@@ -130,19 +173,20 @@ module _ (D : Automaton) (k p into symbols found : ℕ) where
           low : (a : ℕ) → bit symbols a ≡ true → a < k
           low a y = noneFrom-bits k symbols e a (in-bits symbols a y (bit-high symbols 64 a f y))
 
-          inside : (a : ℕ) → a < k → bit symbols a ≡ true → bit into (move D p a) ≡ true
-          inside a l x = ⊎-elim (λ y. y) (λ y. absurd (no-bit (bitAnd to (2 ^ 32 - 1 - into)) (move D p a) z y))
-              (with-or-without 32 to into (move D p a) (known a l) small (to-there a l x))
+          inside : (a : ℕ) → a < k → bit symbols a ≡ true → holds into (move D p a) ≡ true
+          inside a l x = sym (mark-holds into (move D p a) small)
+              ∙ ⊎-elim (λ y. y) (λ y. absurd (no-bit (bitAnd to (2 ^ 64 - 1 - into)) (markOf (move D p a)) z y))
+              (with-or-without 64 to into (markOf (move D p a)) (mark-small (move D p a) (known a l)) (omega arith) (to-there a l x))
 
   -- the symbols that are not found yet
   module _ (new : ℕ) (fs : symbols < 2 ^ 64) (ff : found < 2 ^ 64) (g : By D k p into (bitAnd symbols (2 ^ 64 - 1 - found)) new) where
-    of-new : (a : ℕ) → bit new a ≡ true → (a < k) × (bit symbols a ≡ true) × (bit into (move D p a) ≡ true)
+    of-new : (a : ℕ) → bit new a ≡ true → (a < k) × (bit symbols a ≡ true) × (holds into (move D p a) ≡ true)
     of-new a y =
         let t = g .sound a y in
-        subst (λ (i : ℕ). (i < k) × (bit symbols i ≡ true) × (bit into (move D p i) ≡ true)) (t .2 .0)
+        subst (λ (i : ℕ). (i < k) × (bit symbols i ≡ true) × (holds into (move D p i) ≡ true)) (t .2 .0)
         (t .1, of-and-bit symbols (2 ^ 64 - 1 - found) (t .0) (t .2 .1) .0, t .2 .2)
 
-    in-new : (a : ℕ) → a < k → bit symbols a ≡ true → bit into (move D p a) ≡ true → (bit found a ≡ true) ⊎ (bit new a ≡ true)
+    in-new : (a : ℕ) → a < k → bit symbols a ≡ true → holds into (move D p a) ≡ true → (bit found a ≡ true) ⊎ (bit new a ≡ true)
     in-new a l x y = ⊎-elim inl (λ z. inr (g .complete a a l (refl, z, y))) (with-or-without 64 symbols found a (bit-high symbols 64 a fs x) ff x)
 
     pub added-more : Enters D k p into symbols true → Added D k p into symbols found true (bitOr new found)
@@ -160,7 +204,7 @@ module _ (D : Automaton) (k p into symbols found : ℕ) where
         added-more (record { sound = λ e. (b .0, t .0, (t .1, t .2)); complete = λ a l x. refl })
 
     module _ (z : new ≡ 0) where
-      in-found : (a : ℕ) → a < k → bit symbols a ≡ true → bit into (move D p a) ≡ true → bit found a ≡ true
+      in-found : (a : ℕ) → a < k → bit symbols a ≡ true → holds into (move D p a) ≡ true → bit found a ≡ true
       in-found a l x y = ⊎-elim (λ f. f) (λ n. absurd (no-bit new a z n)) (in-new a l x y)
 
       pub added-again : (b : Bool) → Enters D k p into found b → b ≡ true → Within found symbols → Added D k p into symbols found true found
@@ -187,13 +231,13 @@ module _ (D : Automaton) (k p into symbols found : ℕ) where
 
   pub added-kept : (to new : ℕ) → Moves D k p symbols to → into < 2 ^ 32 → bitAnd to into ≢ 0 → symbols < 2 ^ 64 → found < 2 ^ 64
       → By D k p into (bitAnd symbols (2 ^ 64 - 1 - found)) new → Added D k p into symbols found true (bitOr new found)
-  added-kept to new m small some fs ff g = added-more new fs ff g (to-enters to m small some)
+  added-kept to new m small shared fs ff g = added-more new fs ff g (to-enters to m small shared)
 
 -- ---- the states of a set, backwards
 
 -- what state p of the first set gives: the symbols of the word by which it moves into the second
 abbrev pub EnteringBy : Automaton → ℕ → ℕ → ℕ → ℕ → ℕ → ℕ → Type 0
-EnteringBy D k from into symbols p a = (bit from p ≡ true) × ((a < k) × (bit symbols a ≡ true) × (bit into (move D p a) ≡ true))
+EnteringBy D k from into symbols p a = (bit from p ≡ true) × ((a < k) × (bit symbols a ≡ true) × (holds into (move D p a) ≡ true))
 
 module _ (D : Automaton) (q k symbols from into : ℕ) where
   pub entries-within : (rest found : ℕ) → Walked q from (EnteringBy D k from into symbols) rest found → Within found symbols

@@ -1,6 +1,10 @@
 // An automaton in its bytes: the state count q, four bytes of accepting states, then for each of the q states a row of k bytes, the next state for each
-// symbol. A set of states is a `u32`, bit p for state p; states and symbols are `usize`. `next` alone follows a move; `walk` goes from automaton to automaton.
-// `columns` finds the symbols by which every state moves alike, and `targets` keeps what the states move to by the symbols of one word.
+// symbol, or 255 where there is no move. A set of states is a `u32`, bit p for state p; states and symbols are `usize`. `next` alone follows a move; `walk` goes
+// from automaton to automaton. `columns` finds the symbols by which every state moves alike, and `targets` keeps what the states move to by the symbols of one
+// word.
+//
+// A set that is gathered from moves is a `u64`: bit 63, its mark, says that one of them is missing. So whoever goes on from the set knows whether a symbol led
+// nowhere, and asks no move twice.
 //
 // `successors`, `entering` and `leads` go through the set bits of a word alone, the lowest first: most places allow few symbols, and most sets have few
 // states.
@@ -13,7 +17,7 @@ mod walk;
 pub use columns::all_of;
 pub use columns::firsts;
 pub use columns::kinds;
-pub use columns::separate;
+pub use columns::lacking;
 pub use targets::Entrants;
 pub use targets::forget;
 pub use targets::steps_back;
@@ -25,7 +29,7 @@ ghost use Prim.Native.Nat.{_<_, _≤_, _^_};
 ghost use lib.ListN.{length};
 ghost use Rattle.model.specs.Constraints.{move};
 ghost use Rattle.model.specs.Layout.{little, part};
-ghost use Rattle.automata.specs.Machine.{stateCount, machine, Whole};
+ghost use Rattle.automata.specs.Machine.{stateCount, machine, moveOf, markOf, Whole};
 ghost use Rattle.automata.specs.StateSets.{LowBits, Moves, Enters, Leads, Successors, Entering};
 
 // How many states there are.
@@ -44,12 +48,33 @@ pub fn accepting(d: &[u8]) -> u32
     little::four(d, 1)
 }
 
-// The next state from state p by symbol a.
-pub fn next(d: &[u8], k: usize, p: usize, a: usize) -> usize
+// What a state moves to by a symbol: a state, or nothing.
+pub enum Move {
+    To(usize),
+    Nothing,
+}
+
+// The move from state p by symbol a. Of the bytes that refusal 5 leaves, 255 alone is 63 modulo 64: as `mark` makes 63 of nothing, the compiler sees that the two
+// together leave the byte as it is, and a move that may be missing costs no more than one that may not.
+pub fn next(d: &[u8], k: usize, p: usize, a: usize) -> Move
     requires { ⌜ (k ≤ 64) × Whole k (now d) × (p < stateCount (now d)) × (a < k) ⌝ }
-    ensures { λ r. ⌜ (r ≡ move (machine k (now (d .entry))) p a) × (r < stateCount (now (d .entry))) ⌝ }
+    ensures { λ r. ⌜ (moveOf r ≡ move (machine k (now (d .entry))) p a) × (markOf (moveOf r) < 64) ⌝ }
 {
-    d[5 + p * k + a] as usize
+    let to = (d[5 + p * k + a] % 64) as usize;
+    if to == 63 {
+        return Move::Nothing;
+    }
+    Move::To(to)
+}
+
+// The bit that stands for a move in a set: that of its state, and 63, which no state has, for nothing.
+fn mark(m: Move) -> usize
+    ensures { λ r. ⌜ r ≡ markOf (moveOf m) ⌝ }
+{
+    match m {
+        Move::To(p) => p,
+        Move::Nothing => 63,
+    }
 }
 
 // The set of state p alone.
@@ -68,16 +93,23 @@ pub fn below(w: u64, n: usize) -> u64
     w & words::below(n)
 }
 
-// The states that state p moves to by some symbol of the word.
-fn moves(d: &[u8], k: usize, p: usize, symbols: u64) -> u32
+// The states of a marked set.
+pub fn states_in(set: u64) -> u32
+    ensures { λ r. ⌜ LowBits 32 set r ⌝ }
+{
+    below(set, 32) as u32
+}
+
+// The states that state p moves to by some symbol of the word; marked.
+fn moves(d: &[u8], k: usize, p: usize, symbols: u64) -> u64
     requires { ⌜ (k ≤ 64) × Whole k (now d) × (p < stateCount (now d)) ⌝ }
     ensures { λ r. ⌜ Moves (machine k (now (d .entry))) k p symbols r ⌝ }
 {
     let mut rest = below(symbols, k);
-    let mut r: u32 = 0;
+    let mut r: u64 = 0;
     while rest != 0 {
         let a = words::lowest(rest);
-        r = only(next(d, k, p, a)) | r;
+        r = words::singleton(mark(next(d, k, p, a))) | r;
         rest -= words::singleton(a);
     }
     r
@@ -91,7 +123,7 @@ fn enters(d: &[u8], k: usize, p: usize, set: u32, symbols: u64) -> bool
     let mut rest = below(symbols, k);
     while rest != 0 {
         let a = words::lowest(rest);
-        if words::has(set as u64, next(d, k, p, a)) {
+        if words::has(set as u64, mark(next(d, k, p, a))) {
             return true;
         }
         rest -= words::singleton(a);
@@ -107,7 +139,7 @@ pub fn leads(d: &[u8], k: usize, from: u32, into: u32, a: usize) -> bool
     let mut rest = below(from as u64, states(d));
     while rest != 0 {
         let p = words::lowest(rest);
-        if words::has(into as u64, next(d, k, p, a)) {
+        if words::has(into as u64, mark(next(d, k, p, a))) {
             return true;
         }
         rest -= words::singleton(p);
@@ -115,13 +147,13 @@ pub fn leads(d: &[u8], k: usize, from: u32, into: u32, a: usize) -> bool
     false
 }
 
-// The states that some state of the set moves to by some symbol of the word.
-pub fn successors(d: &[u8], k: usize, set: u32, symbols: u64) -> u32
+// The states that some state of the set moves to by some symbol of the word; marked.
+pub fn successors(d: &[u8], k: usize, set: u64, symbols: u64) -> u64
     requires { ⌜ (k ≤ 64) × Whole k (now d) ⌝ }
     ensures { λ r. ⌜ Successors (machine k (now (d .entry))) (stateCount (now (d .entry))) k set symbols r ⌝ }
 {
-    let mut rest = below(set as u64, states(d));
-    let mut r: u32 = 0;
+    let mut rest = below(set, states(d));
+    let mut r: u64 = 0;
     while rest != 0 {
         let p = words::lowest(rest);
         r = moves(d, k, p, symbols) | r;

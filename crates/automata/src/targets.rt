@@ -1,5 +1,5 @@
-// What each state moves to by the symbols of one word, kept from the first time on that a state is asked: 32 sets, set p for state p, and no state where p was
-// not asked. Every move leads to a state, so that a state that was asked has a set with one, unless the word has no symbol.
+// What each state moves to by the symbols of one word, kept from the first time on that a state is asked: 32 marked sets, set p for state p, and none where p was
+// not asked. Every move leads to a state or leaves a mark, so that a state that was asked has a set with a bit, unless the word has no symbol.
 //
 // Assumes nothing. `requires` asks what refusals 3 and 5 leave, and that the sets belong to the word.
 ghost use mathlib.Core.Path.{_≡_};
@@ -9,9 +9,11 @@ ghost use lib.ListN.{length};
 ghost use Rattle.model.specs.Words.{noneFrom};
 ghost use Rattle.laws.specs.Inclusion.{Within};
 ghost use Rattle.automata.specs.Machine.{stateCount, machine, Whole};
-ghost use Rattle.automata.specs.StateSets.{Moves, Successors, By, Added, Steps, Targets, Forgotten};
+ghost use Rattle.automata.specs.StateSets.{Moves, Successors, By, Added, Steps, Targets, Most, Forgotten};
+ghost use Rattle.automata.specs.Kinds.{Lacks};
 use crate::below;
 use crate::enters;
+use crate::mark;
 use crate::moves;
 use crate::next;
 use crate::only;
@@ -29,8 +31,8 @@ pub struct Entrants {
     pub symbols: u64,
 }
 
-// The states that state p moves to by some symbol of the word.
-fn asked(d: &[u8], k: usize, symbols: u64, tos: &mut [u32; 32], p: usize) -> u32
+// The states that state p moves to by some symbol of the word; marked.
+fn asked(d: &[u8], k: usize, symbols: u64, tos: &mut [u64; 32], p: usize) -> u64
     requires { ⌜ (k ≤ 64) × Whole k (now d) × (p < stateCount (now d)) × Targets (machine k (now d)) (stateCount (now d)) k symbols (now tos) ⌝ }
     ensures { λ r. ⌜ Moves (machine k (now (d .entry))) k p symbols r
         × Targets (machine k (now (d .entry))) (stateCount (now (d .entry))) k symbols (now (tos .exit)) ⌝ }
@@ -44,20 +46,40 @@ fn asked(d: &[u8], k: usize, symbols: u64, tos: &mut [u32; 32], p: usize) -> u32
     r
 }
 
-// The states that some state of the set moves to by some symbol of the word. Once all states are found the rest need not be asked.
-pub fn steps_to(d: &[u8], k: usize, symbols: u64, tos: &mut [u32; 32], set: u32) -> u32
-    requires { ⌜ (k ≤ 64) × Whole k (now d) × Targets (machine k (now d)) (stateCount (now d)) k symbols (now tos) ⌝ }
+// All that a marked set of q states can have by the symbols of the word; the mark only where a move may be missing by one of them.
+fn most(q: usize, symbols: u64, lacking: u64) -> u64
+    requires { ⌜ (1 ≤ q) × (q ≤ 32) ⌝ }
+    ensures { λ r. ⌜ Most q symbols lacking r ⌝ }
+{
+    let all = words::low_mask(q - 1);
+    if symbols & lacking == 0 {
+        return all;
+    }
+    words::singleton(63) | all
+}
+
+// The states that some state of the set moves to by some symbol of the word; marked. Once all is found the rest need not be asked.
+pub fn steps_to(
+    d: &[u8],
+    k: usize,
+    symbols: u64,
+    lacking: u64,
+    tos: &mut [u64; 32],
+    set: u64,
+) -> u64
+    requires { ⌜ (k ≤ 64) × Whole k (now d) × Lacks (machine k (now d)) (stateCount (now d)) k lacking
+        × Targets (machine k (now d)) (stateCount (now d)) k symbols (now tos) ⌝ }
     ensures { λ r. ⌜ Successors (machine k (now (d .entry))) (stateCount (now (d .entry))) k set symbols r
         × Targets (machine k (now (d .entry))) (stateCount (now (d .entry))) k symbols (now (tos .exit)) ⌝ }
 {
     let q = states(d);
-    let all = words::low_mask(q - 1);
-    let mut rest = below(set as u64, q);
-    let mut r: u32 = 0;
+    let all = most(q, symbols, lacking);
+    let mut rest = below(set, q);
+    let mut r: u64 = 0;
     while rest != 0 {
         let p = words::lowest(rest);
         r = asked(d, k, symbols, tos, p) | r;
-        if r as u64 == all {
+        if r == all {
             return r;
         }
         rest -= words::singleton(p);
@@ -75,7 +97,7 @@ fn by(d: &[u8], k: usize, p: usize, into: u32, symbols: u64) -> u64
     while rest != 0 {
         let a = words::lowest(rest);
         let alone = words::singleton(a);
-        if words::has(into as u64, next(d, k, p, a)) {
+        if words::has(into as u64, mark(next(d, k, p, a))) {
             r = alone | r;
         }
         rest -= alone;
@@ -89,7 +111,7 @@ fn first_entry(
     d: &[u8],
     k: usize,
     symbols: u64,
-    tos: &mut [u32; 32],
+    tos: &mut [u64; 32],
     p: usize,
     into: u32,
     found: u64,
@@ -125,7 +147,7 @@ fn entry(
     d: &[u8],
     k: usize,
     symbols: u64,
-    tos: &mut [u32; 32],
+    tos: &mut [u64; 32],
     p: usize,
     into: u32,
     found: u64,
@@ -139,13 +161,14 @@ fn entry(
     if to == 0 {
         return first_entry(d, k, symbols, tos, p, into, found);
     }
-    if to & into == 0 {
+    let set = into as u64;
+    if to & set == 0 {
         return Entered {
             enters: false,
             symbols: found,
         };
     }
-    if to & !into == 0 {
+    if to & !set == 0 {
         return Entered {
             enters: true,
             symbols,
@@ -162,7 +185,7 @@ pub fn steps_back(
     d: &[u8],
     k: usize,
     symbols: u64,
-    tos: &mut [u32; 32],
+    tos: &mut [u64; 32],
     from: u32,
     into: u32,
 ) -> Entrants
@@ -189,7 +212,7 @@ pub fn steps_back(
 }
 
 // Keeps nothing any more.
-pub fn forget(tos: &mut [u32; 32])
+pub fn forget(tos: &mut [u64; 32])
     requires { ⌜ length (now tos) ≡ 32 ⌝ }
     ensures { λ r. ⌜ Forgotten (now (tos .exit)) ⌝ }
 {

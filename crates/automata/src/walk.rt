@@ -3,29 +3,31 @@
 // Assumes nothing. `requires` asks what refusal 3 leaves, at most 64 symbols; `start` also what refusal 5 leaves, automata that the bytes hold.
 ghost use mathlib.Core.Path.{_≡_};
 ghost use Prim.Native.Nat.{_+_, _*_, _≤_};
-ghost use lib.Dec.{ltb};
 ghost use lib.ListN.{length};
 ghost use Rattle.model.specs.Lists.{all};
 ghost use Rattle.model.specs.Layout.{part};
-ghost use Rattle.model.specs.Reading.{automaton, automataIn};
+ghost use Rattle.model.specs.Reading.{known, automaton, automataIn};
 ghost use Rattle.automata.specs.Machine.{stateCount, Whole};
 ghost use Rattle.automata.specs.Walk.{present, Held, Starts};
 use crate::accepting;
 use crate::states;
 
-// Whether the n next states behind the accepting states are below q.
-fn moves_below(d: &[u8], n: usize, q: usize) -> bool
+// Whether each of the n next states behind the accepting states is below q or 255: one more, as bytes count, is at most q. No byte ends the loop, so that many
+// are compared at once.
+fn moves_known(d: &[u8], n: usize, q: usize) -> bool
     requires { ⌜ 5 + n ≤ length (now d) ⌝ }
-    ensures { λ r. ⌜ r ≡ all (λ p. ltb p q) (part 5 n (now (d .entry))) ⌝ }
+    ensures { λ r. ⌜ r ≡ all (known q) (part 5 n (now (d .entry))) ⌝ }
 {
+    let mut top: u8 = 0;
     let mut i: usize = 0;
     while i < n {
-        if q <= d[5 + i] as usize {
-            return false;
+        let more = std::num::wrapping_add_u8(d[5 + i], 1);
+        if top < more {
+            top = more;
         }
         i += 1;
     }
-    true
+    top as usize <= q
 }
 
 // Whether an automaton of k symbols stands at the head of the bytes.
@@ -50,7 +52,7 @@ fn whole(d: &[u8], k: usize) -> bool
     if !words::none_from(accepting(d) as u64, q) {
         return false;
     }
-    moves_below(d, n, q)
+    moves_known(d, n, q)
 }
 
 // How many bytes the automaton at the head of the bytes takes.

@@ -2,6 +2,7 @@
 use mathlib.Core.Path.{_≡_, refl, sym, ap, ap₂, subst, _∙_, fun-ext}
 use mathlib.Core.Bool.{true, false}
 use mathlib.Core.List.{List, [], _∷_}
+use mathlib.Core.Option.{Option}
 use Prim.Native.Nat.{ℕ, _+_, _*_, _/_, _%_, _^_, _≤_, _<_}
 use native.Mathlib.Omega.{arith}
 use native.Mathlib.Nat.{mod-lt}
@@ -20,7 +21,7 @@ use Rattle.model.specs.Pattern.{Pattern}
 use Rattle.model.specs.PatternText.{parsed, parse, symbolAt}
 use Rattle.model.specs.PatternStates.{State, start, passed, when, nullable, first, last, follow, having, ahead, advance}
 use Rattle.model.specs.Numbering.{numberIn, explore}
-use Rattle.model.specs.Compile.{sameState, successors, states, automatonOf, bytesOf, encoded, lettersBelow, whenParsed, compiledBytes}
+use Rattle.model.specs.Compile.{sameState, successors, states, automatonOf, bytesOf, byteOf, encoded, lettersBelow, whenParsed, compiledBytes}
 use Rattle.patterns.proofs.AutomatonLaws.{Closed, move-is, states-closed}
 use Rattle.patterns.proofs.CompileLaws.{moves-length, rows-right}
 use Rattle.patterns.proofs.EncodingLaws.{Rows, flat-length}
@@ -56,7 +57,8 @@ module _ (k : ℕ) (s P : List ℕ) (e : Pattern) (firsts : ℕ) (F : List ℕ) 
 followed-zeros : (e : Pattern) (F : List ℕ) → Followed (replicate 64 0) e F → (p : ℕ) → p < 64 → getD F p 0 ≡ follow e p
 followed-zeros e F h p l = h .each p l ∙ ap (λ (w : ℕ). bitOr w (follow e p)) (getD-replicate 64 p 0 0 l) ∙ or-zero-l (follow e p)
 
-encoded-size-of : (A : Automaton) (k n : ℕ) → length (A .moves) ≡ n → ((row : List ℕ) → In row (A .moves) → length row ≡ k) → length (encoded A) ≡ 5 + n * k
+encoded-size-of : (A : Automaton) (k n : ℕ) → length (A .moves) ≡ n → ((row : List (Option ℕ)) → In row (A .moves) → length row ≡ k)
+    → length (encoded A) ≡ 5 + n * k
 unfolding encoded bytesOf
 encoded-size-of A k n count wide = let f = flat-length k (A .moves) wide in let g = ap (λ (x : ℕ). x * k) count in omega (arith, f, g)
 
@@ -139,14 +141,14 @@ module _ (s : List ℕ) (short : length s ≤ 63) (k : ℕ) (B F : List ℕ) (r 
           accepts-same = accepting-right pattern sets n (states k (symbolAt s) pattern) (part .nullable) (part .last) (stands-pattern .same few) (holds-pattern .empties) (holds-pattern .lasts)
 
           entry : (t : ℕ) → t < n * k
-              → numberIn sameState (listed sets n) (advanceIn P (part .first) F (stateAt sets (t / k)) (t % k)) ≡ getD (getD (machine .moves) (t / k) []) (t % k) 0
-          unfolding machine move
+              → numberIn sameState (listed sets n) (advanceIn P (part .first) F (stateAt sets (t / k)) (t % k)) ≡ byteOf (move machine (t / k) (t % k))
+          unfolding machine byteOf
           entry t l =
               let i = row-of t n k low l in
               let Q = states k (symbolAt s) pattern in
               let q = stands-length sets n (states k (symbolAt s) pattern) stands-pattern few in
               ap₂ (numberIn sameState) (sym (stands-pattern .same few)) (advance-same k s P pattern (part .first) F sorted (holds-pattern .firsts) follows-pattern (stateAt sets (t / k)) (t % k) ∙ ap (λ (x : State). advance (symbolAt s) pattern x (t % k)) (sym (stands-at sets n (states k (symbolAt s) pattern) stands-pattern few (t / k) i)))
-              ∙ sym (move-is k (symbolAt s) pattern (states k (symbolAt s) pattern) closed (t / k) (t % k) (omega arith) (mod-lt t low))
+              ∙ sym (ap byteOf (move-is k (symbolAt s) pattern (states k (symbolAt s) pattern) closed (t / k) (t % k) (omega arith) (mod-lt t low)))
 
           head-word : (C₁ : List ℕ) (acc : ℕ) → acc ≡ machine .accepting
               → C₁ ≡ set (set (set (set (set B 0 n) 1 (acc % 256)) 2 (acc / 256 % 256)) 3 (acc / 65536 % 256)) 4 (acc / 16777216 % 256)

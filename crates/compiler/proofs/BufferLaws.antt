@@ -1,17 +1,19 @@
 -- The bytes in the buffer are the automaton's. Assumes nothing.
 use mathlib.Core.Path.{_≡_, refl, sym, ap, _∙_}
 use mathlib.Core.Bool.{Bool, true, false}
-use mathlib.Core.List.{List, [], _∷_, _++_, flatMap, List·Memᴰ·head, List·Memᴰ·tail}
+use mathlib.Core.List.{List, [], _∷_, _++_, map, flatMap, List·Memᴰ·head, List·Memᴰ·tail}
+use mathlib.Core.Option.{Option, none}
 use Prim.Native.Nat.{ℕ, zero, suc, _+_, _-_, _*_, _/_, _%_, _≤_, _<_}
 use native.Mathlib.Omega.{arith}
 use native.Mathlib.Nat.{mod-lt, div-add-mod', div-lt-iff-lt-mul, mul-le-mul}
 use lib.Dec.{eqb, ltb}
-use lib.ListN.{length, getD, set, drop, length-set, length-append, length-drop, List·getD-append}
+use lib.ListN.{length, getD, set, drop, length-set, length-append, length-map, length-drop, List·getD-append}
 use lib.Seq.{ext-getD, getD-append-add, getD-drop, getD-set-same, getD-set-other}
 use borrow.Author.Tests.{eqb-true, eqb-false, ltb-true, ltb-false}
-use Rattle.model.specs.Constraints.{Automaton}
+use Rattle.model.specs.Constraints.{Automaton, move}
 use Rattle.laws.specs.Inclusion.{In}
-use Rattle.model.specs.Compile.{bytesOf, encoded}
+use Rattle.laws.proofs.ListLaws.{getD-map}
+use Rattle.model.specs.Compile.{bytesOf, byteOf, encoded}
 use Rattle.patterns.proofs.EncodingLaws.{flat-length}
 use Rattle.compiler.specs.Answers.{Rowed}
 
@@ -56,30 +58,37 @@ headed (x₀ ∷ x₁ ∷ x₂ ∷ []) a b c d e l = absurd (omega arith)
 headed (x₀ ∷ x₁ ∷ x₂ ∷ x₃ ∷ []) a b c d e l = absurd (omega arith)
 headed (x₀ ∷ x₁ ∷ x₂ ∷ x₃ ∷ x₄ ∷ B) a b c d e l = refl
 
-flat-at : (k : ℕ) (rows : List (List ℕ)) (i a : ℕ) → ((row : List ℕ) → In row rows → length row ≡ k) → i < length rows → a < k
-    → getD (flatMap (λ (row : List ℕ). row) rows) (i * k + a) 0 ≡ getD (getD rows i []) a 0
+flat-at : (k : ℕ) (rows : List (List (Option ℕ))) (i a : ℕ) → ((row : List (Option ℕ)) → In row rows → length row ≡ k) → i < length rows → a < k
+    → getD (flatMap (map byteOf) rows) (i * k + a) 0 ≡ byteOf (getD (getD rows i []) a none)
 unfolding flatMap
 flat-at k [] i a w l h = absurd (omega arith)
 flat-at k (row ∷ rows) zero a w l h =
     let n = w row (List·Memᴰ·head refl) in
+    let m = length-map row byteOf in
     let z : 0 * k + a ≡ a = omega arith in
-    ap (λ (j : ℕ). getD (row ++ flatMap (λ (r : List ℕ). r) rows) j 0) z ∙ List·getD-append row (flatMap (λ (r : List ℕ). r) rows) 0 a (omega arith)
+    ap (λ (j : ℕ). getD (map byteOf row ++ flatMap (map byteOf) rows) j 0) z
+    ∙ List·getD-append (map byteOf row) (flatMap (map byteOf) rows) 0 a (omega arith)
+    ∙ getD-map byteOf row a none 0 (omega arith)
 flat-at k (row ∷ rows) (suc i) a w l h =
-    let n = w row (List·Memᴰ·head refl) in
-    let z : suc i * k + a ≡ length row + (i * k + a) = omega (arith, n) in
-    ap (λ (j : ℕ). getD (row ++ flatMap (λ (r : List ℕ). r) rows) j 0) z
-    ∙ getD-append-add row (flatMap (λ (r : List ℕ). r) rows) (i * k + a) 0
+    let n = length-map row byteOf ∙ w row (List·Memᴰ·head refl) in
+    let z : suc i * k + a ≡ length (map byteOf row) + (i * k + a) = omega (arith, n) in
+    ap (λ (j : ℕ). getD (map byteOf row ++ flatMap (map byteOf) rows) j 0) z
+    ∙ getD-append-add (map byteOf row) (flatMap (map byteOf) rows) (i * k + a) 0
     ∙ flat-at k rows i a (λ r m. w r (List·Memᴰ·tail m)) (omega arith) h
 
-module _ (A : Automaton) (k n : ℕ) (B C : List ℕ) (f : ℕ → ℕ) (count : length (A .moves) ≡ n) (wide : (row : List ℕ) → In row (A .moves) → length row ≡ k) (some-symbol : 1 ≤ k) (fits : 5 + n * k ≤ length B) (rowed : Rowed (set (set (set (set (set B 0 n) 1 (A .accepting % 256)) 2 (A .accepting / 256 % 256)) 3 (A .accepting / 65536 % 256)) 4 (A .accepting / 16777216 % 256)) f (n * k) C) (entries : (t : ℕ) → t < n * k → f t ≡ getD (getD (A .moves) (t / k) []) (t % k) 0) where
+module _ (A : Automaton) (k n : ℕ) (B C : List ℕ) (f : ℕ → ℕ) (count : length (A .moves) ≡ n) (wide : (row : List (Option ℕ)) → In row (A .moves) → length row ≡ k) (some-symbol : 1 ≤ k) (fits : 5 + n * k ≤ length B) (rowed : Rowed (set (set (set (set (set B 0 n) 1 (A .accepting % 256)) 2 (A .accepting / 256 % 256)) 3 (A .accepting / 65536 % 256)) 4 (A .accepting / 16777216 % 256)) f (n * k) C) (entries : (t : ℕ) → t < n * k → f t ≡ byteOf (move A (t / k) (t % k))) where
   head-is : set (set (set (set (set B 0 n) 1 (A .accepting % 256)) 2 (A .accepting / 256 % 256)) 3 (A .accepting / 65536 % 256)) 4 (A .accepting / 16777216 % 256) ≡ n ∷ A .accepting % 256 ∷ A .accepting / 256 % 256 ∷ A .accepting / 65536 % 256 ∷ A .accepting / 16777216 % 256 ∷ drop 5 B
   head-is = headed B n _ _ _ _ (omega arith)
 
-  flat-entry : (t : ℕ) → t < n * k → getD C (5 + t) 0 ≡ getD (flatMap (λ (row : List ℕ). row) (A .moves)) t 0
+  flat-entry : (t : ℕ) → t < n * k → getD C (5 + t) 0 ≡ getD (flatMap (map byteOf) (A .moves)) t 0
+  unfolding move
   flat-entry t l =
       let i = row-of t n k some-symbol l in
       let d = div-add-mod' t k in
-      rowed .done t l ∙ entries t l ∙ sym (flat-at k (A .moves) (t / k) (t % k) wide (omega arith) (mod-lt t some-symbol)) ∙ ap (λ (j : ℕ). getD (flatMap (λ (row : List ℕ). row) (A .moves)) j 0) d
+      rowed .done t l
+      ∙ entries t l
+      ∙ sym (flat-at k (A .moves) (t / k) (t % k) wide (omega arith) (mod-lt t some-symbol))
+      ∙ ap (λ (j : ℕ). getD (flatMap (map byteOf) (A .moves)) j 0) d
 
   written-at : (j : ℕ) → j < 5 + n * k → getD C j 0 ≡ getD (encoded A) j 0
   unfolding encoded bytesOf

@@ -1,6 +1,6 @@
 -- The laws about the definitions, each module after those it cites: lists and words; a row, a table and its domains; one narrowing step; rounds; solutions;
--- the search tree; the index of the steps and their queue; the file; demand 3. `SliceLaws`, `Supports`, `NeqLaws`, `LoopLaws` and `StackLaws` are for the code
--- above: parts of a lent slice, a step's parts, Neq's step, the search's loop and its invariant.
+-- the search tree; the index of the steps and their queue; the file; problems that mean the same, and sinks written out; demand 3. `SliceLaws`, `Supports`,
+-- `NeqLaws`, `LoopLaws` and `StackLaws` are for the code above: parts of a lent slice, a step's parts, Neq's step, the search's loop and its invariant.
 pub mod ListLaws
 pub mod SliceLaws
 pub mod CollectLaws
@@ -32,4 +32,6 @@ pub mod CallLaws
 pub mod StackLaws
 pub mod LayoutLaws
 pub mod ReadingLaws
+pub mod AlikeLaws
+pub mod SinkLaws
 pub mod Demand

@@ -15,7 +15,7 @@ use Rattle.model.specs.Domains.{Variable, str, num}
 use Rattle.model.specs.Constraints.{Problem, Constraint, always, eq, neq, rev, cat, sub, len, regular, variables, width}
 use Rattle.model.specs.Solutions.{InRange, WellFormed}
 use Rattle.model.specs.Replies.{answered}
-use Rattle.model.specs.Layout.{Bytes, little, part, Parts, trailer, tableWords, layout}
+use Rattle.model.specs.Layout.{Bytes, little, part, back, Parts, trailer, tableWords, layout}
 use Rattle.model.specs.Reading.{pieces, string, number, names, Kind, kinds, kindOf, decode, repeats, Accepted, problemOf, reading}
 use Rattle.laws.specs.Inclusion.{In}
 use Rattle.laws.specs.Lent.{lendable}
@@ -221,15 +221,20 @@ problemOf-sound p bytes a e =
       own-table = true-and (eq-eqb (length F) (width P) (table-length (64 * p .strings + p .numbers) (p .tableBytes))) (t₆ .0);
     })
 
-pub layout-bytes : (file : List ℕ) → Bytes file → (p : Parts) → layout file ≡ answered p → Bytes (p .tableBytes)
+back-bytes : (file : List ℕ) → Bytes file → (d n : ℕ) → Bytes (back file d n)
+back-bytes file b d n = take-bytes n (drop (length file - 24 - d) file) (drop-bytes (length file - 24 - d) file b)
+
+pub layout-bytes : (file : List ℕ) → Bytes file → (p : Parts) → layout file ≡ answered p → Bytes (p .tableBytes) × Bytes (p .automataBytes)
 unfolding layout
 layout-bytes file b p e =
+    let h = trailer file in
     let t₁ = require-answered _ 1 _ p e in
     let t₂ = require-answered _ 2 _ p (t₁ .1) in
     let t₃ = require-answered _ 3 _ p (t₂ .1) in
     let t₄ = require-answered _ 4 _ p (t₃ .1) in
-    subst (λ (q : Parts). Bytes (q .tableBytes)) (answered-inj (t₄ .1)) (take-bytes (8 * tableWords (trailer file)) (drop (length file - 24 - trailer file .tableBack) file) (drop-bytes (length file - 24 - trailer file .tableBack) file b))
+    subst (λ (q : Parts). Bytes (q .tableBytes) × Bytes (q .automataBytes)) (answered-inj (t₄ .1))
+    (back-bytes file b (h .tableBack) (8 * tableWords h), back-bytes file b (h .automataBack) (h .automataBack))
 
 pub reading-sound : (file : List ℕ) → Bytes file → (a : Accepted) → reading file ≡ answered a → Sound a
 unfolding reading
-reading-sound file b a e = let t = andThen-answered (layout file) problemOf a e in problemOf-sound (t .0) (layout-bytes file b (t .0) (t .1)) a (t .2)
+reading-sound file b a e = let t = andThen-answered (layout file) problemOf a e in problemOf-sound (t .0) (layout-bytes file b (t .0) (t .1) .0) a (t .2)

@@ -24,8 +24,8 @@ use Rattle.inplace.specs.InPlace.{InPlace}
 use Rattle.inplace.proofs.Tables.{same-row}
 use Rattle.cat.specs.Strings.{Strings}
 use Rattle.automata.specs.Machine.{stateCount, machine, Whole}
-use Rattle.automata.specs.Kinds.{Kinds, Separate}
-use Rattle.automata.proofs.KindLaws.{separate-kinds}
+use Rattle.automata.specs.Kinds.{Kinds}
+use Rattle.automata.proofs.KindLaws.{no-words}
 use Rattle.regular.specs.PlaceSets.{Alphabet}
 use Rattle.measure.specs.TidyRows.{TidyRows}
 
@@ -111,11 +111,10 @@ module _ {T : List ℕ} (r : TidyRows 3 T) where
   asked-len = (omega arith, number-fits, tidy-z)
 
   -- a word has no bit at 64 or above
-  pub asked-regular : (d ks : List ℕ) → Whole 64 d → Separate ks → (64 ≤ 64) × Whole 64 d × Kinds (machine 64 d) (stateCount d) 64 ks 0 × (0 + 64 ≤ length ks)
+  pub asked-regular : (d ks : List ℕ) → Whole 64 d → length ks ≡ 0 → (64 ≤ 64) × Whole 64 d × Kinds (machine 64 d) (stateCount d) 64 ks 0
       × (64 * 0 + 64 ≤ length T) × Alphabet 64 (row T 0) × Tidy (row T 0)
-  asked-regular d ks w s =
-      let l = s .size in
-      (omega arith, w, separate-kinds ks s (machine 64 d) (stateCount d) 64 (omega arith), omega arith, row-fits 0 (omega arith), record { below = λ j h. noneFrom-all _ }, tidy-x)
+  asked-regular d ks w z =
+      (omega arith, w, no-words ks 0 z (machine 64 d) (stateCount d) 64, row-fits 0 (omega arith), record { below = λ j h. noneFrom-all _ }, tidy-x)
 
 -- ---- what a step leaves
 

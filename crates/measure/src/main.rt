@@ -79,7 +79,7 @@ fn regular_step(t: &mut [u64]) -> bool
     ensures { λ r. ⌜ (r ≡ true → TidyRows 3 (now (t .exit))) ⌝ }
 {
     let d = parity();
-    let kinds = automata::separate();
+    let kinds = [0u64; 0];
     regular::narrow(&d, 64, &kinds, 0, t, 0).left
 }
 

@@ -1,5 +1,6 @@
 -- P1 to P14 (document 01, "Examples by hand") as a table of cases: a problem with its table, an operation, and what it gives. Assumes nothing.
 use mathlib.Core.List.{List, [], _∷_, _++_, map, foldr}
+use mathlib.Core.Option.{some}
 use Prim.Native.Nat.{ℕ, _+_, _*_, _^_}
 use lib.ListN.{length, take, replicate}
 use Rattle.model.specs.Constraints.{Constraint, Automaton, width, eq, neq, rev, cat, sub, len, regular}
@@ -120,7 +121,7 @@ p12 = stepCase (fileFrom 4 (len 0 0 ∷ []) [] (sets ((0 ∷ 3 ∷ []) ∷ (0 �
 
 -- "states 0 (accepting) and 1, symbol 0 changes state, symbol 1 keeps it"
 unfoldable pub parity : Automaton
-parity = record { accepting = 1; moves = (1 ∷ 0 ∷ []) ∷ (0 ∷ 1 ∷ []) ∷ [] }
+parity = record { accepting = 1; moves = (some 1 ∷ some 0 ∷ []) ∷ (some 0 ∷ some 1 ∷ []) ∷ [] }
 
 -- P13 Regular, k 2: X {1,2}, {0}, {0,1}: X "00"
 unfoldable pub p13 : Case

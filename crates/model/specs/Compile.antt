@@ -3,7 +3,7 @@ use mathlib.Core.Path.{_≡_}
 use mathlib.Core.Logic.{_↔_}
 use mathlib.Core.Bool.{Bool, true, false, _&&_, _||_}
 use mathlib.Core.List.{List, [], _∷_, _++_, map, flatMap}
-use mathlib.Core.Option.{some}
+use mathlib.Core.Option.{Option, none, some}
 use Prim.Native.Nat.{ℕ, zero, suc, _+_, _*_, _/_, _%_, _^_}
 use lib.Dec.{eqb, ltb, leb}
 use lib.ListN.{length, getD, drop}
@@ -39,7 +39,7 @@ module _ (k : ℕ) (symbol : ℕ → ℕ) (e : Pattern) where
   unfoldable pub automatonOf : List State → Automaton
   automatonOf Q = record {
     accepting = union (map (λ i. 2 ^ i) (select (λ i. final e (getD Q i start)) (upto (length Q))));
-    moves = map (λ x. map (numberIn sameState Q) (successors x)) Q;
+    moves = map (λ x. map (λ y. some (numberIn sameState Q y)) (successors x)) Q;
   }
 
 -- ---- its bytes
@@ -49,9 +49,15 @@ unfoldable pub bytesOf : ℕ → ℕ → List ℕ
 bytesOf zero w = []
 bytesOf (suc n) w = w % 256 ∷ bytesOf n (w / 256)
 
+-- the byte of a move; by ticket 5 "Let byte 255 in a row mean that no move exists". A pattern's automaton has every move: "the empty set, from which nothing is
+-- accepted, is one of them if reached"
+unfoldable pub byteOf : Option ℕ → ℕ
+byteOf none = 255
+byteOf (some p) = p
+
 -- document 01's form: "a state count q (1 to 32, one byte), 32 bits of accepting states (bits at q and above are 0), then q rows of k bytes"
 unfoldable pub encoded : Automaton → List ℕ
-encoded A = length (A .moves) ∷ (bytesOf 4 (A .accepting) ++ flatMap (λ row. row) (A .moves))
+encoded A = length (A .moves) ∷ (bytesOf 4 (A .accepting) ++ flatMap (map byteOf) (A .moves))
 
 -- ---- the refusals
 

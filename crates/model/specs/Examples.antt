@@ -5,7 +5,7 @@ use mathlib.Core.Option.{Option·elim, bind}
 use Rattle.model.specs.Lists.{select, any, all, find, mapFrom, from, upto, same}
 use Rattle.model.specs.Words.{bit, bits, several, noneFrom, union, size}
 use Rattle.model.specs.Domains.{sameVariable, texts, strings, row, valuesOf, owner}
-use Rattle.model.specs.Constraints.{variables, differ, isPart, move, reached, accepts, meets}
+use Rattle.model.specs.Constraints.{variables, differ, isPart, move, reached, holds, accepts, meets}
 use Rattle.model.specs.Solutions.{textBit, used}
 use Rattle.model.specs.Support.{choices, supports, touches, narrowed, struck}
 use Rattle.model.specs.Rounds.{variablesOf, valueCount, everyValue, steps, run, round, after, settlingIn, settling}
@@ -22,7 +22,7 @@ each (d ∷ cs) h c (List·Memᴰ·tail m) = each cs (h .1) c m
 computed : unfold cases in AllAgree cases
 unfolding cases p1 p2 p3 p4 p5 p6 p7 p8 p9 p10 p11 p12 p13 p14 file14 parity stepCase fileFrom tableFrom quote sets set perform
     select any all find mapFrom from upto same bit bits several noneFrom union size
-    sameVariable texts strings row valuesOf owner variables differ isPart move reached accepts meets textBit used
+    sameVariable texts strings row valuesOf owner variables differ isPart move reached holds accepts meets textBit used
     choices supports touches narrowed struck variablesOf valueCount everyValue steps run round after settlingIn settling
     solved wordsOf branchVariable branchWord branch restricted children nodesIn nodes numbered firstSolved hit miss searching
     require andThen symbolsBelow requireLength onTable stepAt step search flatMap Option·elim bind

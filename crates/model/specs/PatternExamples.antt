@@ -7,7 +7,7 @@ use Rattle.model.specs.Replies.{refused, answered, require}
 use Rattle.model.specs.PatternText.{symbolOf, symbolAt, sees, thenRead, starred, ended, patternAt, branchAt, itemAt, parse}
 use Rattle.model.specs.PatternStates.{when, nullable, first, last, follow, having, ahead, advance, final}
 use Rattle.model.specs.Numbering.{numberIn, reach, reachAll, explore}
-use Rattle.model.specs.Compile.{sameState, successors, states, automatonOf, bytesOf, encoded, lettersBelow, whenParsed, compiledBytes}
+use Rattle.model.specs.Compile.{sameState, successors, states, automatonOf, bytesOf, byteOf, encoded, lettersBelow, whenParsed, compiledBytes}
 
 -- text, symbols, room and answer: `(0|1)*0` 2 100; `0*` 1 100; `` 1 100; `()*|0` 2 100; `0**` 1 9; `0|0` 1 100; `01(0|1)*` 3 20; `0(1` 2 100; `1` 1 5; `a` 12 100; `(0|1)*0(0|1)(0|1)(0|1)` 2 200; `(0|1)*0(0|1)(0|1)(0|1)(0|1)` 2 200
 pub worked :
@@ -24,5 +24,5 @@ pub worked :
     (compiledBytes 2 (40 ∷ 48 ∷ 124 ∷ 49 ∷ 41 ∷ 42 ∷ 48 ∷ 40 ∷ 48 ∷ 124 ∷ 49 ∷ 41 ∷ 40 ∷ 48 ∷ 124 ∷ 49 ∷ 41 ∷ 40 ∷ 48 ∷ 124 ∷ 49 ∷ 41 ∷ []) 200 ≡ answered (17 ∷ 0 ∷ 254 ∷ 1 ∷ 0 ∷ 1 ∷ 2 ∷ 3 ∷ 4 ∷ 1 ∷ 2 ∷ 5 ∷ 6 ∷ 7 ∷ 8 ∷ 9 ∷ 10 ∷ 11 ∷ 12 ∷ 13 ∷ 14 ∷ 15 ∷ 16 ∷ 9 ∷ 10 ∷ 11 ∷ 12 ∷ 13 ∷ 14 ∷ 15 ∷ 16 ∷ 5 ∷ 6 ∷ 7 ∷ 8 ∷ 3 ∷ 4 ∷ 1 ∷ 2 ∷ [])) ×
     (compiledBytes 2 (40 ∷ 48 ∷ 124 ∷ 49 ∷ 41 ∷ 42 ∷ 48 ∷ 40 ∷ 48 ∷ 124 ∷ 49 ∷ 41 ∷ 40 ∷ 48 ∷ 124 ∷ 49 ∷ 41 ∷ 40 ∷ 48 ∷ 124 ∷ 49 ∷ 41 ∷ 40 ∷ 48 ∷ 124 ∷ 49 ∷ 41 ∷ []) 200 ≡ refused 16)
 unfolding select any all from upto bit bits union require flatMap symbolOf symbolAt sees thenRead starred ended patternAt branchAt itemAt parse when nullable first
-    last follow having ahead advance final numberIn reach reachAll explore sameState successors states automatonOf bytesOf encoded lettersBelow whenParsed compiledBytes
+    last follow having ahead advance final numberIn reach reachAll explore sameState successors states automatonOf bytesOf byteOf encoded lettersBelow whenParsed compiledBytes
 worked = (refl, refl, refl, refl, refl, refl, refl, refl, refl, refl, refl, refl)

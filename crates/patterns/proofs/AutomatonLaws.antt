@@ -2,13 +2,14 @@
 use mathlib.Core.Path.{_≡_, refl, sym, ap, subst, _∙_}
 use mathlib.Core.Bool.{true, false≢true}
 use mathlib.Core.List.{List, [], _∷_, map, List·Memᴰ·head, List·Memᴰ·tail, Memᴰ·map}
+use mathlib.Core.Option.{Option, none, some, bind}
 use Prim.Native.Nat.{ℕ, _+_, _^_, _≤_, _<_}
 use native.Mathlib.Omega.{arith}
 use lib.ListN.{length, getD, length-map}
 use borrow.Author.Tests.{eqb-true, eq-eqb}
 use Rattle.model.specs.Lists.{select, from, upto}
 use Rattle.model.specs.Words.{bit}
-use Rattle.model.specs.Constraints.{move, reached, accepts}
+use Rattle.model.specs.Constraints.{move, reached, holds, accepts}
 use Rattle.laws.specs.Inclusion.{In}
 use Rattle.laws.proofs.ListLaws.{of-select, in-select, in-upto, of-upto, from-length, from-getD, getD-map}
 use Rattle.laws.proofs.WordLaws.{bool-ext, pow-self, pow-only}
@@ -41,27 +42,33 @@ module _ (k : ℕ) (symbol : ℕ → ℕ) (e : Pattern) where
   Closed Q = (j : ℕ) → j < length Q → (y : State) → In y (successors k symbol e (getD Q j start)) → In y Q
 
   module _ (Q : List State) (closed : Closed Q) where
-    pub move-is : (j a : ℕ) → j < length Q → a < k → move (automatonOf k symbol e Q) j a ≡ numberIn sameState Q (advance symbol e (getD Q j start) a)
+    -- every move exists: it leads to the state that the symbol leads to
+    pub move-is : (j a : ℕ) → j < length Q → a < k → move (automatonOf k symbol e Q) j a ≡ some (numberIn sameState Q (advance symbol e (getD Q j start) a))
     unfolding move automatonOf successors upto
     move-is j a l h =
         let x = getD Q j start in
         let n : a < length (map (advance symbol e x) (from 0 k)) = subst (λ (m : ℕ). a < m) (sym (length-map (from 0 k) (advance symbol e x) ∙ from-length 0 k)) h in
         let z : 0 + a ≡ a = omega arith in
-        ap (λ (row : List ℕ). getD row a 0) (getD-map (λ y. map (numberIn sameState Q) (map (advance symbol e y) (from 0 k))) Q j start [] l)
-        ∙ getD-map (numberIn sameState Q) (map (advance symbol e x) (from 0 k)) a start 0 n
-        ∙ ap (numberIn sameState Q) (from-getD (advance symbol e x) 0 k a start h ∙ ap (advance symbol e x) z)
+        let number : State → Option ℕ = λ y. some (numberIn sameState Q y) in
+        ap (λ (row : List (Option ℕ)). getD row a none) (getD-map (λ y. map number (map (advance symbol e y) (from 0 k))) Q j start [] l)
+        ∙ getD-map number (map (advance symbol e x) (from 0 k)) a start none n
+        ∙ ap number (from-getD (advance symbol e x) 0 k a start h ∙ ap (advance symbol e x) z)
 
     -- after the same symbols the automaton is in the state whose number the set has
     pub reached-run : (w : List ℕ) (j : ℕ) → j < length Q → ((a : ℕ) → In a w → a < k)
-        → (reached (automatonOf k symbol e Q) j w < length Q) × (getD Q (reached (automatonOf k symbol e Q) j w) start ≡ stateAfter symbol e (getD Q j start) w)
-    unfolding reached stateAfter
-    reached-run [] j l h = (l, refl)
+        → (i : ℕ) × (reached (automatonOf k symbol e Q) j w ≡ some i) × (i < length Q) × (getD Q i start ≡ stateAfter symbol e (getD Q j start) w)
+    unfolding reached stateAfter bind
+    reached-run [] j l h = (j, refl, l, refl)
     reached-run (a ∷ w) j l h =
         let small = h a (List·Memᴰ·head refl) in
         let y = advance symbol e (getD Q j start) a in
         let n = number-in sameState same-sound same-whole Q y start (closed j l y (advance-in (getD Q j start) a small)) in
-        let t = reached-run w (numberIn sameState Q y) (n .0) (λ b m. h b (List·Memᴰ·tail m)) in
-        subst (λ (i : ℕ). (reached (automatonOf k symbol e Q) i w < length Q) × (getD Q (reached (automatonOf k symbol e Q) i w) start ≡ stateAfter symbol e y w)) (sym (move-is j a l small)) (t .0, t .1 ∙ ap (λ (x : State). stateAfter symbol e x w) (n .1))
+        let t = reached-run w (numberIn sameState Q y) (n .0) (λ b m. h b (List·Memᴰ·tail m)) in (
+          t .0,
+          ap (λ (m : Option ℕ). bind m (λ p. reached (automatonOf k symbol e Q) p w)) (move-is j a l small) ∙ t .1,
+          t .2,
+          t .3 ∙ ap (λ (x : State). stateAfter symbol e x w) (n .1),
+        )
 
     pub accepting-is : (j : ℕ) → j < length Q → bit (automatonOf k symbol e Q .accepting) j ≡ final e (getD Q j start)
     unfolding automatonOf
@@ -83,10 +90,10 @@ module _ (k : ℕ) (symbol : ℕ → ℕ) (e : Pattern) where
 
     pub accepts-run : 0 < length Q → getD Q 0 start ≡ start → (w : List ℕ) → ((a : ℕ) → In a w → a < k)
         → accepts (automatonOf k symbol e Q) w ≡ final e (stateAfter symbol e start w)
-    unfolding accepts
+    unfolding accepts holds
     accepts-run l s w h =
         let t = reached-run w 0 l h in
-        accepting-is (reached (automatonOf k symbol e Q) 0 w) (t .0) ∙ ap (final e) (t .1 ∙ ap (λ (x : State). stateAfter symbol e x w) s)
+        ap (holds (automatonOf k symbol e Q .accepting)) (t .1) ∙ accepting-is (t .0) (t .2) ∙ ap (final e) (t .3 ∙ ap (λ (x : State). stateAfter symbol e x w) s)
 
   -- the list of the states in the order of first reaching
   pub states-closed : length (states k symbol e) ≤ 32 → Closed (states k symbol e)

@@ -191,7 +191,7 @@ pub fn settle(file: &[u8], p: layout::Parts, index: &[u64], table: &mut [u64]) -
     ensures { λ r. ⌜ r ≡ queueing (problemIn (now (file .entry)) p) (now (table .entry)) .steps ⌝ }
     ensures { λ r. ⌜ now (table .exit) ≡ queueing (problemIn (now (file .entry)) p) (now (table .entry)) .table ⌝ }
 {
-    let mut kinds = [0u64; 512];
+    let mut kinds = [0u64; 520];
     steps::kinds(file, p, &mut kinds);
     let mut ring: [u8; 128] = [0; 128];
     let mut q = all(&mut ring, p.c + p.s);

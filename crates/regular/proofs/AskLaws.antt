@@ -13,7 +13,7 @@ use Rattle.automata.specs.StateSets.{Successors, Steps, Targets, Forgotten}
 use Rattle.automata.specs.Kinds.{Firsts, AllOf}
 use Rattle.automata.proofs.SetLaws.{no-bit, gathered-empty}
 use Rattle.automata.proofs.KindLaws.{firsts-low, firsts-successors, firsts-steps}
-use Rattle.automata.proofs.TargetLaws.{targets-none}
+use Rattle.automata.proofs.TargetLaws.{targets-none, targets-unasked}
 use Rattle.regular.specs.Asks.{Asking, Turned, Forwards, Backwards, Kept}
 
 -- ---- what is remembered
@@ -50,10 +50,14 @@ pub forgotten-start : Forgotten (replicate 32 0)
 forgotten-start = record { size = length-replicate {A = ℕ} 32 0; none = λ p h. getD-replicate 32 p 0 0 h }
 
 pub turned-same : (ks : List ℕ) (at symbols word firsts : ℕ) (T : List ℕ) → symbols ≡ word → Firsts ks at word firsts → Turned ks at symbols firsts T firsts T
-turned-same ks at symbols word firsts T e f = record { firsts = subst (λ (w : ℕ). Firsts ks at w firsts) (sym e) f; kept = inl (refl, refl) }
+turned-same ks at symbols word firsts T e f = record { firsts = subst (λ (w : ℕ). Firsts ks at w firsts) (sym e) f; kept = inl (refl, inl refl) }
 
 pub turned-other : (ks : List ℕ) (at symbols old : ℕ) (T : List ℕ) (r : ℕ) (U : List ℕ) → Firsts ks at symbols r → Forgotten U → Turned ks at symbols old T r U
 turned-other ks at symbols old T r U f g = record { firsts = f; kept = inr g }
+
+-- nothing was asked before
+pub turned-first : (ks : List ℕ) (at symbols old : ℕ) (T : List ℕ) (r : ℕ) → Firsts ks at symbols r → old ≡ 0 → Turned ks at symbols old T r T
+turned-first ks at symbols old T r f z = record { firsts = f; kept = inl (refl, inr z) }
 
 module _ (k : ℕ) (bs ks : List ℕ) (at : ℕ) (asking : Asking k bs ks at) where
   -- nothing is asked yet
@@ -67,8 +71,12 @@ module _ (k : ℕ) (bs ks : List ℕ) (at : ℕ) (asking : Asking k bs ks at) wh
   module _ (symbols old : ℕ) (T : List ℕ) (r : ℕ) (U : List ℕ) (turned : Turned ks at symbols old T r U) where
     pub turned-targets : Targets (machine k bs) (stateCount bs) k old T → Targets (machine k bs) (stateCount bs) k r U
     turned-targets g = ⊎-elim
-        (λ e. subst (λ (w : ℕ). Targets (machine k bs) (stateCount bs) k w U) (sym (e .1))
-        (subst (Targets (machine k bs) (stateCount bs) k old) (sym (e .0)) g))
+        (λ e.
+        let h : Targets (machine k bs) (stateCount bs) k old U = subst (Targets (machine k bs) (stateCount bs) k old) (sym (e .0)) g in
+        ⊎-elim
+        (λ q. subst (λ (w : ℕ). Targets (machine k bs) (stateCount bs) k w U) (sym q) h)
+        (λ z. targets-unasked _ _ k r U (subst (λ (w : ℕ). Targets (machine k bs) (stateCount bs) k w U) z h))
+        (e .1))
         (targets-none _ _ _ _ U (asking .whole .most-states))
         (turned .kept)
 

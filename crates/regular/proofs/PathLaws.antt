@@ -1,8 +1,9 @@
 -- Ways of an automaton along a row, place by place, and strings put together from a way to a state and a way on from it. Assumes nothing.
 use mathlib.Core.Path.{_≡_, refl, sym, ap, subst, _∙_}
 use mathlib.Core.Logic.{_⊎_, inl, inr}
-use mathlib.Core.Bool.{Bool, true, false}
+use mathlib.Core.Bool.{Bool, true, false, false≢true}
 use mathlib.Core.List.{List, [], _∷_, _++_}
+use mathlib.Core.Option.{Option, none, some, bind, Option·some-injective}
 use Prim.Native.Nat.{ℕ, zero, suc, _+_, _-_, _≤_, _<_}
 use native.Mathlib.Omega.{arith}
 use lib.Dec.{ltb}
@@ -10,13 +11,34 @@ use lib.ListN.{length, getD, take, drop, length-append, length-drop, List·getD-
 use lib.Seq.{take-suc, take-all, length-take-le, getD-take, getD-drop, getD-append-add}
 use borrow.Author.Tests.{ltb-true, ltb-false}
 use Rattle.model.specs.Words.{bit, word}
-use Rattle.model.specs.Constraints.{Automaton, move, reached}
-use Rattle.regular.specs.Paths.{Allowed, Reach, Ends}
+use Rattle.laws.proofs.ListLaws.{bind-some}
+use Rattle.model.specs.Constraints.{Automaton, move, reached, holds}
+use Rattle.regular.specs.Paths.{Allowed, Reach, Ends, Onward}
 
-pub reached-append : (A : Automaton) (p : ℕ) (u v : List ℕ) → reached A p (u ++ v) ≡ reached A (reached A p u) v
-unfolding reached
+pub reached-append : (A : Automaton) (p : ℕ) (u v : List ℕ) → reached A p (u ++ v) ≡ bind (reached A p u) (λ q. reached A q v)
+unfolding reached bind
 reached-append A p [] v = refl
-reached-append A p (a ∷ u) v = reached-append A (move A p a) u v
+reached-append A p (a ∷ u) v = go (move A p a) (λ q. reached-append A q u v)
+  where
+    go : (m : Option ℕ) → ((q : ℕ) → reached A q (u ++ v) ≡ bind (reached A q u) (λ r. reached A r v))
+        → bind m (λ q. reached A q (u ++ v)) ≡ bind (bind m (λ q. reached A q u)) (λ r. reached A r v)
+    go none f = refl
+    go (some q) f = f q
+
+-- from a state that is reached
+pub reached-on : (A : Automaton) (p : ℕ) (u v : List ℕ) (q : ℕ) → reached A p u ≡ some q → reached A p (u ++ v) ≡ reached A q v
+unfolding bind
+reached-on A p u v q e = reached-append A p u v ∙ ap (λ (m : Option ℕ). bind m (λ q. reached A q v)) e
+
+-- the first move of a way
+pub reached-first : (A : Automaton) (p a : ℕ) (v : List ℕ) (t : ℕ) → move A p a ≡ some t → reached A p (a ∷ v) ≡ reached A t v
+unfolding reached bind
+reached-first A p a v t e = ap (λ (m : Option ℕ). bind m (λ q. reached A q v)) e
+
+pub holds-bind : (w : ℕ) (m : Option ℕ) (f : ℕ → Option ℕ) → holds w (bind m f) ≡ true → (q : ℕ) × (m ≡ some q) × (holds w (f q) ≡ true)
+unfolding holds bind
+holds-bind w none f e = absurd (false≢true e)
+holds-bind w (some q) f e = (q, refl, e)
 
 -- ---- symbols that are allowed
 
@@ -79,29 +101,29 @@ module _ (A : Automaton) (x : List ℕ) where
   unfolding reached
   start-only p r = go (r .symbols) (r .long) (r .leads)
     where
-      go : (u : List ℕ) → length u ≡ 0 → reached A 0 u ≡ p → p ≡ 0
-      go [] e f = sym f
+      go : (u : List ℕ) → length u ≡ 0 → reached A 0 u ≡ some p → p ≡ 0
+      go [] e f = sym (Option·some-injective 0 p f)
       go (a ∷ u) e f = absurd (omega arith)
 
-  pub reach-next : (i p a : ℕ) → Reach A x i p → bit (word x (suc i)) a ≡ true → Reach A x (suc i) (move A p a)
+  pub reach-next : (i p a t : ℕ) → Reach A x i p → bit (word x (suc i)) a ≡ true → move A p a ≡ some t → Reach A x (suc i) t
   unfolding reached
-  reach-next i p a r b =
+  reach-next i p a t r b m =
       let n = r .long in
       record {
         symbols = r .symbols ++ (a ∷ []);
         long = omega (arith, length-append (r .symbols) (a ∷ []));
         allowed = allowed-append x (r .symbols) (a ∷ []) i n (r .allowed) (allowed-cons x i a [] b (λ j l. absurd (omega arith)));
-        leads = reached-append A 0 (r .symbols) (a ∷ []) ∙ ap (λ (s : ℕ). move A s a) (r .leads);
+        leads = reached-on A 0 (r .symbols) (a ∷ []) p (r .leads) ∙ reached-first A p a [] t m;
       }
 
-  pub reach-on : (i p : ℕ) (v : List ℕ) → Reach A x i p → Allowed x i v → Reach A x (i + length v) (reached A p v)
-  reach-on i p v r h =
+  pub reach-on : (i p : ℕ) (v : List ℕ) (t : ℕ) → Reach A x i p → Allowed x i v → reached A p v ≡ some t → Reach A x (i + length v) t
+  reach-on i p v t r h m =
       let n = r .long in
       record {
         symbols = r .symbols ++ v;
         long = omega (arith, length-append (r .symbols) v);
         allowed = allowed-append x (r .symbols) v i n (r .allowed) h;
-        leads = reached-append A 0 (r .symbols) v ∙ ap (λ (s : ℕ). reached A s v) (r .leads);
+        leads = reached-on A 0 (r .symbols) v p (r .leads) ∙ m;
       }
 
   -- the last move of a way
@@ -110,57 +132,64 @@ module _ (A : Automaton) (x : List ℕ) where
     pub symbol : ℕ
     pub before : Reach A x i state
     pub allowed : bit (word x (suc i)) symbol ≡ true
-    pub leads : move A state symbol ≡ t
+    pub leads : move A state symbol ≡ some t
 
   pub reach-came : (i t : ℕ) → Reach A x (suc i) t → Came i t
-  unfolding reached
+  unfolding reached bind
   reach-came i t r =
       let u : List ℕ = r .symbols in
       let n : length u ≡ suc i = r .long in
       let l : i < length u = omega arith in
       let e : take i u ++ (getD u i 0 ∷ []) ≡ u = sym (take-suc u i 0 l) ∙ take-all (suc i) u (omega arith) in
+      let way = bind-some (reached A 0 (take i u)) (λ q. reached A q (getD u i 0 ∷ [])) t
+      (sym (reached-append A 0 (take i u) (getD u i 0 ∷ [])) ∙ ap (reached A 0) e ∙ r .leads) in
+      let last = bind-some (move A (way .0) (getD u i 0)) (λ q. some q) t (way .2) in
       record {
-        state = reached A 0 (take i u);
+        state = way .0;
         symbol = getD u i 0;
-        before = record { symbols = take i u; long = length-take-le i u (omega arith); allowed = allowed-take x u i (omega arith) (r .allowed); leads = refl };
+        before = record { symbols = take i u; long = length-take-le i u (omega arith); allowed = allowed-take x u i (omega arith) (r .allowed); leads = way .1 };
         allowed = first-allowed x u (r .allowed) i l;
-        leads = sym (reached-append A 0 (take i u) (getD u i 0 ∷ [])) ∙ ap (reached A 0) e ∙ r .leads;
+        leads = last .1 ∙ last .2;
       }
 
   -- ---- backwards
 
   pub ends-here : (i p : ℕ) → bit (word x 0) i ≡ true → bit (A .accepting) p ≡ true → Ends A x i p
-  unfolding reached
+  unfolding reached holds
   ends-here i p l b =
       let q : i ≡ i + 0 = omega arith in
       record { symbols = []; long = subst (λ (n : ℕ). bit (word x 0) n ≡ true) q l; allowed = λ j k. absurd (omega arith); accepted = b }
 
-  pub ends-next : (i p a : ℕ) → bit (word x (suc i)) a ≡ true → Ends A x (suc i) (move A p a) → Ends A x i p
-  unfolding reached
-  ends-next i p a b t = record {
+  pub ends-next : (i p a : ℕ) → bit (word x (suc i)) a ≡ true → Onward A x (suc i) p a → Ends A x i p
+  ends-next i p a b o = let t = o .ends in record {
     symbols = a ∷ t .symbols;
     long = let q : suc i + length (t .symbols) ≡ i + suc (length (t .symbols)) = omega arith in subst (λ (n : ℕ). bit (word x 0) n ≡ true) q (t .long);
     allowed = allowed-cons x i a (t .symbols) b (t .allowed);
-    accepted = t .accepted;
+    accepted = ap (holds (A .accepting)) (reached-first A p a (t .symbols) (o .state) (o .leads)) ∙ t .accepted;
   }
 
   -- the first move of a way
   pub record Goes (i p : ℕ) : Type 0 where
     pub symbol : ℕ
     pub allowed : bit (word x (suc i)) symbol ≡ true
-    pub after : Ends A x (suc i) (move A p symbol)
+    pub after : Onward A x (suc i) p symbol
 
   pub ends-cases : (i p : ℕ) → Ends A x i p → ((bit (word x 0) i ≡ true) × (bit (A .accepting) p ≡ true)) ⊎ Goes i p
-  unfolding reached
+  unfolding reached holds
   ends-cases i p t = go (t .symbols) (t .long) (t .allowed) (t .accepted)
     where
-      go : (v : List ℕ) → bit (word x 0) (i + length v) ≡ true → Allowed x i v → bit (A .accepting) (reached A p v) ≡ true
+      go : (v : List ℕ) → bit (word x 0) (i + length v) ≡ true → Allowed x i v → holds (A .accepting) (reached A p v) ≡ true
           → ((bit (word x 0) i ≡ true) × (bit (A .accepting) p ≡ true)) ⊎ Goes i p
       go [] l h e = let q : i + 0 ≡ i = omega arith in inl (subst (λ (n : ℕ). bit (word x 0) n ≡ true) q l, e)
       go (a ∷ v) l h e =
           let q : i + suc (length v) ≡ suc i + length v = omega arith in
+          let m = holds-bind (A .accepting) (move A p a) (λ q. reached A q v) e in
           inr (record {
             symbol = a;
             allowed = allowed-head x i a v h;
-            after = record { symbols = v; long = subst (λ (n : ℕ). bit (word x 0) n ≡ true) q l; allowed = allowed-tail x i a v h; accepted = e };
+            after = record {
+              state = m .0;
+              leads = m .1;
+              ends = record { symbols = v; long = subst (λ (n : ℕ). bit (word x 0) n ≡ true) q l; allowed = allowed-tail x i a v h; accepted = m .2 };
+            };
           })

@@ -3,7 +3,7 @@ use mathlib.Core.Path.{_≡_, refl, sym, ap, ap₂, subst, _∙_}
 use mathlib.Core.Logic.{_≢_, ⊎-elim}
 use mathlib.Core.Bool.{Bool, true, false, not, cond, _||_, false≢true}
 use mathlib.Core.List.{List, [], _∷_}
-use Prim.Native.Nat.{ℕ, suc, _+_, _-_, _*_, _/_, _%_, _≤_, _<_}
+use Prim.Native.Nat.{ℕ, suc, _+_, _-_, _*_, _/_, _%_, _^_, _≤_, _<_}
 use native.Mathlib.Nat.{eq-or-lt-of-le}
 use native.Mathlib.Omega.{arith}
 use lib.Bits.{bitAnd, bitOr}
@@ -20,7 +20,7 @@ use Rattle.laws.proofs.RowLaws.{used-length}
 use Rattle.words.specs.Ends.{Highest}
 use Rattle.rows.proofs.Windows.{uses-symbol}
 use Rattle.automata.specs.Machine.{stateCount, machine, Whole}
-use Rattle.automata.specs.StateSets.{Successors, Symbols, Entering, Steps}
+use Rattle.automata.specs.StateSets.{LowBits, Successors, Symbols, Entering, Steps}
 use Rattle.automata.proofs.MachineLaws.{machine-accepting}
 use Rattle.automata.proofs.SetLaws.{no-bit, gathered-empty}
 use Rattle.inplace.specs.declared.Change.{Change}
@@ -30,10 +30,11 @@ use Rattle.laws.proofs.ListLaws.{or-false, or-true, not-false, not-true}
 use Rattle.inplace.proofs.Tables.{row-first, row-place, highest-most, highest-one, bit-some, only-out}
 use Rattle.inplace.proofs.Sides.{Side, side-of, side-ended, side-flag}
 use Rattle.inplace.proofs.Shapes.{one-left, one-none}
+use Rattle.regular.specs.Paths.{Reach}
 use Rattle.regular.specs.PlaceSets.{Alphabet, Forward, Lengths}
 use Rattle.regular.specs.Backwards.{Accepted, Through, Going, Backward}
-use Rattle.regular.proofs.StateLaws.{Suited, machine-suited, forward-less, forward-step}
-use Rattle.regular.proofs.BackLaws.{lengths-accepted, nothing-through, between-last, between-next, through-next, between-all, through-all}
+use Rattle.regular.proofs.StateLaws.{Suited, machine-suited, forward-less, forward-step, forward-states}
+use Rattle.regular.proofs.BackLaws.{lengths-accepted, nothing-through, between-last, between-next, through-next, reach-before, between-all, through-all}
 use Rattle.regular.proofs.RegularLaws.{length-sound, symbol-stays, regular-narrowed}
 
 -- the states that move on by a symbol that is kept are those that move on by one that is allowed
@@ -102,10 +103,10 @@ module _ (k : ℕ) (bs T : List ℕ) (x : ℕ) (whole : Whole k bs) (fits : 64 *
   -- ---- the accepted lengths
 
   module _ (tidy : Tidy r) (longest acc ends : ℕ) (sets : List ℕ) (high : Highest (word T (64 * x)) longest) (f : Forward A r (longest + 1) sets)
-      (u : acc ≡ little (part 1 4 bs)) (g : Lengths 64 (word T (64 * x)) acc sets ends) where
+      (small : acc < 2 ^ 32) (u : acc ≡ little (part 1 4 bs)) (g : Lengths 64 (word T (64 * x)) acc sets ends) where
     all-accepted : Accepted A r ends
     all-accepted = lengths-accepted A r longest acc ends sets (subst (λ (w : ℕ). Highest w longest) (sym (row-first T x)) high)
-        (u ∙ sym (machine-accepting k bs))
+        small (u ∙ sym (machine-accepting k bs))
         (forward-less A r sets (longest + 1) (suc longest) (omega arith) f)
         (subst (λ (w : ℕ). Lengths 64 w acc sets ends) (sym (row-first T x)) g)
 
@@ -161,15 +162,21 @@ module _ (k : ℕ) (bs T : List ℕ) (x : ℕ) (sets : List ℕ) (ends top : ℕ
   pub top-small : top ≤ go .tidy .top
   top-small = highest-most (word r₁ 0) (go .tidy .top) top (go .tidy .longest) (go .accepted .sound top (go .longest .here) .0)
 
+  -- the states that i places lead to
+  states-of : (i from : ℕ) → i ≤ top → LowBits 32 (word sets i) from
+      → ((p : ℕ) → bit from p ≡ true → Reach A₁ r₁ i p) × ((p : ℕ) → Reach A₁ r₁ i p → bit from p ≡ true)
+  states-of i from h low = forward-states A₁ q₁ k r₁ fit (suc top) i from sets (omega arith) (go .before) low
+
   -- as the recursion counts, by the places of the table
   pub going-all : Going k bs T (64 * x / 64) sets ends (64 * x % 64 + top)
   going-all = going-same k bs T sets ends x (64 * x / 64) top (64 * x % 64 + top) (omega arith) (omega arith) go
 
   -- past the longest accepted length
-  pub backward-first : (i here : ℕ) → i ≡ top → here ≡ cond (bit ends i) (bitAnd (word sets i) (little (part 1 4 bs))) 0 → Backward A₁ T x i top T here false
-  backward-first i here e h = record {
+  pub backward-first : (i from here : ℕ) → i ≡ top → LowBits 32 (word sets i) from → here ≡ cond (bit ends i) (bitAnd from (little (part 1 4 bs))) 0
+      → Backward A₁ T x i top T here false
+  backward-first i from here e low h = record {
     size = refl;
-    states = between-last A₁ r₁ ends (go .accepted) (suc top) i here sets (omega arith) (go .before) (little (part 1 4 bs)) (sym (machine-accepting k bs)) h
+    states = between-last A₁ r₁ ends (go .accepted) i from here (states-of i from (omega arith) low) (little (part 1 4 bs)) (sym (machine-accepting k bs)) h
         (λ l b. let m = most l b in omega arith);
     places = λ j l m. absurd (omega arith);
     others = λ n f. refl;
@@ -187,16 +194,26 @@ module _ (k : ℕ) (bs T : List ℕ) (x : ℕ) (sets : List ℕ) (ends top : ℕ
     pub backward-low : noneFrom k (word U (suc (64 * x + i))) ≡ true
     backward-low = ap (noneFrom k) place ∙ (let s = go .longest .small in go .alphabet .below i (omega arith))
 
+    -- the places before lead to some state, as those up to the longest accepted length do
+    way-here : (p : ℕ) × Reach A₁ r₁ i p
+    way-here =
+        let t = go .accepted .sound top (go .longest .here) .1 in
+        let n : top ≡ i + (top - i) = omega arith in
+        reach-before A₁ r₁ (top - i) i (t .0) (subst (λ (m : ℕ). Reach A₁ r₁ m (t .0)) n (t .1))
+
     -- from here on nothing is struck
-    pub backward-all : behind ≡ word sets (suc i) → Backward A₁ T x i top U (word sets i) c
-    backward-all e =
+    pub backward-all : (from : ℕ) → LowBits 32 (word sets i) from → behind ≡ word sets (suc i) → Backward A₁ T x i top U from c
+    backward-all from low e =
         let l : i < go .tidy .top = let s = top-small in omega arith in
+        let g = states-of i from (omega arith) low in
+        let way = way-here in
         record {
           size = b .size;
-          states = between-all A₁ q₁ k r₁ fit (go .tidy) (suc top) i behind sets (omega arith) (go .before) l (b .states) e;
+          states = between-all A₁ q₁ k r₁ fit (go .tidy) (suc top) i behind from sets (omega arith) (go .before) g l (b .states) e;
           places = λ j p m. ⊎-elim
               (λ z. subst (λ (n : ℕ). Through A₁ r₁ n (word U (suc (64 * x + n)))) z
-              (subst (Through A₁ r₁ i) (sym place) (through-all A₁ q₁ k r₁ fit (go .tidy) (suc top) i behind sets (omega arith) (go .before) l (b .states) e)))
+              (subst (Through A₁ r₁ i) (sym place)
+              (through-all A₁ q₁ k r₁ fit (go .tidy) (suc top) i behind from sets (omega arith) (go .before) g l (b .states) e (way .0) (way .1))))
               (λ g. b .places j g m)
               (eq-or-lt-of-le p);
           others = λ n f. b .others n (λ j p m. f j (omega arith) m);
@@ -204,8 +221,8 @@ module _ (k : ℕ) (bs T : List ℕ) (x : ℕ) (sets : List ℕ) (ends top : ℕ
         }
 
     -- the place is written
-    module _ (here symbols states : ℕ) (e : here ≡ cond (bit ends i) (bitAnd (word sets i) (little (part 1 4 bs))) 0)
-        (s : Steps A₁ q₁ k (word r₁ (suc i)) (word sets i) behind symbols states) where
+    module _ (from here symbols states : ℕ) (low : LowBits 32 (word sets i) from) (e : here ≡ cond (bit ends i) (bitAnd from (little (part 1 4 bs))) 0)
+        (s : Steps A₁ q₁ k (word r₁ (suc i)) from behind symbols states) where
       abbrev U₁ : List ℕ
       U₁ = set U (suc (64 * x + i)) symbols
 
@@ -218,11 +235,11 @@ module _ (k : ℕ) (bs T : List ℕ) (x : ℕ) (sets : List ℕ) (ends top : ℕ
       pub backward-next : (p : Bool) → p ≡ not (eqb (word U (suc (64 * x + i))) symbols) → Backward A₁ T x i top U₁ (bitOr here states) (c || p)
       backward-next p d = record {
         size = length-set U (suc (64 * x + i)) symbols ∙ b .size;
-        states = between-next A₁ r₁ ends (go .accepted) (suc top) i here sets (omega arith) (go .before) (little (part 1 4 bs)) (sym (machine-accepting k bs)) e
+        states = between-next A₁ r₁ ends (go .accepted) i from here (states-of i from (omega arith) low) (little (part 1 4 bs)) (sym (machine-accepting k bs)) e
             q₁ k behind symbols states fit (b .states) s;
         places = λ j l m. ⊎-elim
             (λ z. subst (λ (n : ℕ). Through A₁ r₁ n (word U₁ (suc (64 * x + n)))) z
-            (subst (Through A₁ r₁ i) (sym same) (through-next A₁ r₁ ends (go .accepted) (suc top) i here sets (omega arith) (go .before) (little (part 1 4 bs))
+            (subst (Through A₁ r₁ i) (sym same) (through-next A₁ r₁ ends (go .accepted) i from here (states-of i from (omega arith) low) (little (part 1 4 bs))
             (sym (machine-accepting k bs)) e q₁ k behind symbols states fit (b .states) s)))
             (λ g. subst (Through A₁ r₁ j) (sym (other (suc (64 * x + j)) (omega arith))) (b .places j g m))
             (eq-or-lt-of-le l);
@@ -312,11 +329,11 @@ module _ (k : ℕ) (bs T sets : List ℕ) (ends n r : ℕ) (whole : Whole k bs) 
   here-place : n + 1 ≡ suc (64 * (n / 64) + n % 64)
   here-place = omega arith
 
-  pub level-first : (here : ℕ) (c : Bool) → r ≡ 0 → here ≡ cond (bit ends (n % 64)) (bitAnd (word sets (n % 64)) (little (part 1 4 bs))) 0 → c ≡ false
-      → Backward A₂ T (n / 64) (n % 64) (n % 64 + r) T here c
-  level-first here c e h f =
+  pub level-first : (from here : ℕ) (c : Bool) → r ≡ 0 → LowBits 32 (word sets (n % 64)) from
+      → here ≡ cond (bit ends (n % 64)) (bitAnd from (little (part 1 4 bs))) 0 → c ≡ false → Backward A₂ T (n / 64) (n % 64) (n % 64 + r) T here c
+  level-first from here c e low h f =
       subst (λ (b : Bool). Backward A₂ T (n / 64) (n % 64) (n % 64 + r) T here b) (sym f)
-      (backward-first k bs T (n / 64) sets ends (n % 64 + r) whole bd go (n % 64) here (omega arith) h)
+      (backward-first k bs T (n / 64) sets ends (n % 64 + r) whole bd go (n % 64) from here (omega arith) low h)
 
   module _ (some : r ≢ 0) where
     row-same : (n + 1) / 64 ≡ n / 64
@@ -345,18 +362,18 @@ module _ (k : ℕ) (bs T sets : List ℕ) (ends n r : ℕ) (whole : Whole k bs) 
       pub level-low : noneFrom k (word U (n + 1)) ≡ true
       level-low = ap (λ (m : ℕ). noneFrom k (word U m)) here-place ∙ backward-low k bs T (n / 64) sets ends (n % 64 + r) whole bd go (n % 64) behind U c less next
 
-      pub level-all : behind ≡ word sets (n % 64 + 1) → Backward A₂ T (n / 64) (n % 64) (n % 64 + r) U (word sets (n % 64)) c
-      level-all e =
+      pub level-all : (from : ℕ) → LowBits 32 (word sets (n % 64)) from → behind ≡ word sets (n % 64 + 1) → Backward A₂ T (n / 64) (n % 64) (n % 64 + r) U from c
+      level-all from low e =
           let f : n % 64 + 1 ≡ suc (n % 64) = omega arith in
-          backward-all k bs T (n / 64) sets ends (n % 64 + r) whole bd go (n % 64) behind U c less next (e ∙ ap (word sets) f)
+          backward-all k bs T (n / 64) sets ends (n % 64 + r) whole bd go (n % 64) behind U c less next from low (e ∙ ap (word sets) f)
 
-      pub level-next : (here symbols states : ℕ) → here ≡ cond (bit ends (n % 64)) (bitAnd (word sets (n % 64)) (little (part 1 4 bs))) 0
-          → Steps A₂ (stateCount bs) k (word U (n + 1)) (word sets (n % 64)) behind symbols states → (U₁ : List ℕ) (p c₁ : Bool)
+      pub level-next : (from here symbols states : ℕ) → LowBits 32 (word sets (n % 64)) from → here ≡ cond (bit ends (n % 64)) (bitAnd from (little (part 1 4 bs))) 0
+          → Steps A₂ (stateCount bs) k (word U (n + 1)) from behind symbols states → (U₁ : List ℕ) (p c₁ : Bool)
           → (U₁ ≡ set U (n + 1) symbols) × (p ≡ not (eqb (word U (n + 1)) symbols)) → c₁ ≡ (c || p)
           → Backward A₂ T (n / 64) (n % 64) (n % 64 + r) U₁ (bitOr here states) c₁
-      level-next here symbols states e s U₁ p c₁ put d =
+      level-next from here symbols states low e s U₁ p c₁ put d =
           let g : U₁ ≡ set U (suc (64 * (n / 64) + n % 64)) symbols = put .0 ∙ ap (λ (i : ℕ). set U i symbols) here-place in
-          rw (d, g) (backward-next k bs T (n / 64) sets ends (n % 64 + r) whole bd go (n % 64) behind U c less next here symbols states e
-          (subst (λ (w : ℕ). Steps A₂ (stateCount bs) k w (word sets (n % 64)) behind symbols states)
+          rw (d, g) (backward-next k bs T (n / 64) sets ends (n % 64 + r) whole bd go (n % 64) behind U c less next from here symbols states low e
+          (subst (λ (w : ℕ). Steps A₂ (stateCount bs) k w from behind symbols states)
           (ap (word U) here-place ∙ place k bs T (n / 64) sets ends (n % 64 + r) whole bd go (n % 64) behind U c less next) s) p
           (put .1 ∙ ap (λ (i : ℕ). not (eqb (word U i) symbols)) here-place))

@@ -2,7 +2,7 @@
 use mathlib.Core.Path.{_≡_}
 use mathlib.Core.Logic.{_⊎_}
 use mathlib.Core.List.{List}
-use Prim.Native.Nat.{ℕ, _+_, _≤_, _<_, _^_}
+use Prim.Native.Nat.{ℕ, _≤_, _<_, _^_}
 use lib.ListN.{length}
 use Rattle.model.specs.Words.{word}
 use Rattle.automata.specs.Machine.{stateCount, machine, Whole}
@@ -14,12 +14,11 @@ pub record Asking (k : ℕ) (bs ks : List ℕ) (at : ℕ) : Type 0 where
   pub most : k ≤ 64
   pub whole : Whole k bs
   pub kinds : Kinds (machine k bs) (stateCount bs) k ks at
-  pub room : at + 64 ≤ length ks
 
--- r has one symbol of each kind of the word; either it is the word asked last, and what was kept stays, or nothing is kept
+-- r has one symbol of each kind of the word; either it is the word asked last, or none was asked, and what was kept stays, or nothing is kept
 pub record Turned (ks : List ℕ) (at symbols old : ℕ) (T : List ℕ) (r : ℕ) (U : List ℕ) : Type 0 where
   pub firsts : Firsts ks at symbols r
-  pub kept : ((U ≡ T) × (r ≡ old)) ⊎ Forgotten U
+  pub kept : ((U ≡ T) × ((r ≡ old) ⊎ (old ≡ 0))) ⊎ Forgotten U
 
 -- the states that the set moves to; and what is kept of the states, by one symbol of each kind of a word
 pub record Forwards (k : ℕ) (bs ks : List ℕ) (at set symbols states word firsts : ℕ) (tos : List ℕ) : Type 0 where

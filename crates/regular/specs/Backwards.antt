@@ -8,11 +8,11 @@ use Prim.Native.Nat.{ℕ, suc, _+_, _*_, _<_, _≤_}
 use lib.ListN.{length}
 use Rattle.model.specs.Words.{bit, word}
 use Rattle.model.specs.Domains.{row}
-use Rattle.model.specs.Constraints.{Automaton, move}
+use Rattle.model.specs.Constraints.{Automaton}
 use Rattle.words.specs.Ends.{Highest}
 use Rattle.automata.specs.Machine.{machine}
 use Rattle.inplace.specs.InTable.{Tidy, Changed}
-use Rattle.regular.specs.Paths.{Reach, Ends}
+use Rattle.regular.specs.Paths.{Reach, Ends, Onward}
 use Rattle.regular.specs.PlaceSets.{Alphabet, Forward}
 
 -- the lengths that are allowed and whose places lead to an accepting state
@@ -27,8 +27,8 @@ pub record Between (A : Automaton) (x : List ℕ) (i states : ℕ) : Type 0 wher
 
 -- the symbols at the place after the first i by which such a way goes on
 pub record Through (A : Automaton) (x : List ℕ) (i symbols : ℕ) : Type 0 where
-  pub sound : (a : ℕ) → bit symbols a ≡ true → (bit (word x (suc i)) a ≡ true) × ((p : ℕ) × Reach A x i p × Ends A x (suc i) (move A p a))
-  pub complete : (a p : ℕ) → bit (word x (suc i)) a ≡ true → Reach A x i p → Ends A x (suc i) (move A p a) → bit symbols a ≡ true
+  pub sound : (a : ℕ) → bit symbols a ≡ true → (bit (word x (suc i)) a ≡ true) × ((p : ℕ) × Reach A x i p × Onward A x (suc i) p a)
+  pub complete : (a p : ℕ) → bit (word x (suc i)) a ≡ true → Reach A x i p → Onward A x (suc i) p a → bit symbols a ≡ true
 
 -- the row of x before a symbol is struck, the states that its places lead to, and the accepted lengths, of which top is the longest
 pub record Going (k : ℕ) (bs T : List ℕ) (x : ℕ) (sets : List ℕ) (ends top : ℕ) : Type 0 where

@@ -3,10 +3,11 @@
 use mathlib.Core.Path.{_≡_}
 use mathlib.Core.Bool.{true}
 use mathlib.Core.List.{List}
+use mathlib.Core.Option.{some}
 use Prim.Native.Nat.{ℕ, suc, _+_, _<_}
 use lib.ListN.{length, getD}
 use Rattle.model.specs.Words.{bit, word}
-use Rattle.model.specs.Constraints.{Automaton, reached}
+use Rattle.model.specs.Constraints.{Automaton, move, reached, holds}
 
 -- the places after the first i allow these symbols
 abbrev pub Allowed : List ℕ → ℕ → List ℕ → Type 0
@@ -17,11 +18,17 @@ pub record Reach (A : Automaton) (x : List ℕ) (i p : ℕ) : Type 0 where
   pub symbols : List ℕ
   pub long : length symbols ≡ i
   pub allowed : Allowed x 0 symbols
-  pub leads : reached A 0 symbols ≡ p
+  pub leads : reached A 0 symbols ≡ some p
 
 -- symbols of the places after the first i lead from state p to an accepted end, with a length that is allowed
 pub record Ends (A : Automaton) (x : List ℕ) (i p : ℕ) : Type 0 where
   pub symbols : List ℕ
   pub long : bit (word x 0) (i + length symbols) ≡ true
   pub allowed : Allowed x i symbols
-  pub accepted : bit (A .accepting) (reached A p symbols) ≡ true
+  pub accepted : holds (A .accepting) (reached A p symbols) ≡ true
+
+-- by symbol a state p moves to a state from which the places after the first i lead to an accepted end
+pub record Onward (A : Automaton) (x : List ℕ) (i p a : ℕ) : Type 0 where
+  pub state : ℕ
+  pub leads : move A p a ≡ some state
+  pub ends : Ends A x i state

@@ -1,5 +1,6 @@
 // Regular(X, D): automaton D accepts X. A symbol stays at a place if a state that the places before it lead to moves by it to a state from which the places
-// after it lead to an accepted end; a length stays if the places up to it lead to an accepting state. Sets of states are a `u32` each.
+// after it lead to an accepted end; a length stays if the places up to it lead to an accepting state. Sets of states are a `u32` each; those found going forwards
+// are marked (crates/automata), so that a place at which some move is missing is known.
 //
 // The states that the places lead to are found going forwards, and then, going backwards, each place is left the symbols that lie on a way to an accepted end.
 // A word of several symbols is asked by one symbol of each kind (crates/automata), and what states move to by the word last asked is kept in 32 sets, `tos`.
@@ -19,7 +20,7 @@ ghost use Rattle.model.specs.Constraints.{regular};
 ghost use Rattle.model.specs.Layout.{little, part};
 ghost use Rattle.automata.specs.Machine.{stateCount, machine, Whole};
 ghost use Rattle.automata.specs.StateSets.{Symbols, Steps, Forgotten};
-ghost use Rattle.automata.specs.Kinds.{Kinds, Firsts};
+ghost use Rattle.automata.specs.Kinds.{Room, Kinds, Firsts};
 ghost use Rattle.inplace.specs.InTable.{Tidy};
 ghost use Rattle.inplace.specs.InPlace.{InPlace};
 ghost use Rattle.regular.specs.PlaceSets.{Alphabet, Forward, Lengths};
@@ -29,22 +30,25 @@ ghost use Rattle.regular.specs.Backwards.{Going, Backward};
 // What the automaton was asked at a place, and its answer: the states that the set moves to by the word. And the word of several symbols that was asked last,
 // with one symbol of each kind that it has.
 struct Asked {
-    set: u32,
+    set: u64,
     symbols: u64,
-    states: u32,
+    states: u64,
     word: u64,
     firsts: u64,
 }
 
-// One symbol of each kind of the word. Where another word was asked last, what is kept of the states belongs to that one, and is forgotten.
-fn turn(kinds: &[u64], at: usize, tos: &mut [u32; 32], symbols: u64, word: u64, firsts: u64) -> u64
-    requires { ⌜ (at + 64 ≤ length (now kinds)) × (length (now tos) ≡ 32) × Firsts (now kinds) at word firsts ⌝ }
+// One symbol of each kind of the word. Where another word was asked last, what is kept of the states belongs to that one, and is forgotten; where none was,
+// nothing is kept.
+fn turn(kinds: &[u64], at: usize, tos: &mut [u64; 32], symbols: u64, word: u64, firsts: u64) -> u64
+    requires { ⌜ Room (now kinds) at × (length (now tos) ≡ 32) × Firsts (now kinds) at word firsts ⌝ }
     ensures { λ r. ⌜ Turned (now (kinds .entry)) at symbols firsts (now (tos .entry)) r (now (tos .exit)) ⌝ }
 {
     if symbols == word {
         return firsts;
     }
-    automata::forget(tos);
+    if firsts != 0 {
+        automata::forget(tos);
+    }
     automata::firsts(kinds, at, symbols)
 }
 
@@ -55,8 +59,8 @@ fn successors(
     k: usize,
     kinds: &[u64],
     at: usize,
-    tos: &mut [u32; 32],
-    set: u32,
+    tos: &mut [u64; 32],
+    set: u64,
     symbols: u64,
     last: Asked,
 ) -> Asked
@@ -80,10 +84,11 @@ fn successors(
         };
     }
     let firsts = turn(kinds, at, tos, symbols, last.word, last.firsts);
+    let lacking = automata::lacking(kinds, at);
     Asked {
         set,
         symbols,
-        states: automata::steps_to(d, k, firsts, tos, set),
+        states: automata::steps_to(d, k, firsts, lacking, tos, set),
         word: symbols,
         firsts,
     }
@@ -95,11 +100,11 @@ fn forward(
     k: usize,
     kinds: &[u64],
     at: usize,
-    tos: &mut [u32; 32],
+    tos: &mut [u64; 32],
     t: &[u64],
     x: usize,
     longest: usize,
-    sets: &mut [u32; 64],
+    sets: &mut [u64; 64],
 ) -> Asked
     requires { ⌜ Asking k (now d) (now kinds) at × Forgotten (now tos) × (64 * x + 64 ≤ length (now t)) × Alphabet k (row (now t) x) × (longest < 64)
         × (length (now sets) ≡ 64) ⌝ }
@@ -124,7 +129,7 @@ fn forward(
 }
 
 // The lengths with which the places before lead to an accepting state.
-fn lengths(allowed: u64, accepting: u32, before: &[u32; 64]) -> u64
+fn lengths(allowed: u64, accepting: u32, before: &[u64; 64]) -> u64
     ensures { λ r. ⌜ Lengths 64 allowed accepting (now (before .entry)) r ⌝ }
 {
     let mut rest = allowed;
@@ -132,7 +137,7 @@ fn lengths(allowed: u64, accepting: u32, before: &[u32; 64]) -> u64
     while rest != 0 {
         let l = words::lowest(rest);
         let alone = words::singleton(l);
-        if accepting & before[l] != 0 {
+        if accepting as u64 & before[l] != 0 {
             r = alone | r;
         }
         rest -= alone;
@@ -201,7 +206,7 @@ fn kept(
     k: usize,
     kinds: &[u64],
     at: usize,
-    tos: &mut [u32; 32],
+    tos: &mut [u64; 32],
     allowed: u64,
     from: u32,
     into: u32,
@@ -236,17 +241,17 @@ fn kept(
 
 // Keeps at the r places after place n of the table the symbols by which an accepted end is reachable: n has the row and the place in it, and the last of them
 // is at the longest accepted length. Gives the states that the places up to n lead to and from which it is; says in `changed` if a symbol was struck. Where an
-// accepted end is reachable from all that are reached past the next place, nothing is struck at this one or before it, and there is no more to do.
+// accepted end is reachable from all that is reached past the next place, no mark among it, no move is missing at that place, and nothing is struck there.
 fn backward(
     d: &[u8],
     k: usize,
     kinds: &[u64],
     at: usize,
-    tos: &mut [u32; 32],
+    tos: &mut [u64; 32],
     t: &mut [u64],
     n: usize,
     r: usize,
-    sets: &[u32; 64],
+    sets: &[u64; 64],
     ends: u64,
     last: &mut [u64; 7],
     changed: &mut bool,
@@ -258,7 +263,7 @@ fn backward(
 {
     let i = n % 64;
     if r == 0 {
-        return ending(d, ends, i, sets[i]);
+        return ending(d, ends, i, automata::states_in(sets[i]));
     }
     let next = n + 1;
     let into = backward(
@@ -275,8 +280,8 @@ fn backward(
         last,
         changed,
     );
-    let from = sets[i];
-    if into == sets[i + 1] {
+    let from = automata::states_in(sets[i]);
+    if into as u64 == sets[i + 1] {
         return from;
     }
     let states = kept(d, k, kinds, at, tos, t[next], from, into, last);
@@ -285,7 +290,7 @@ fn backward(
     ending(d, ends, i, from) | states
 }
 
-// One narrowing step, in place. `at` is the index of the automaton's first word in the kinds.
+// One narrowing step, in place. `at` is the index of the automaton's first word in the kinds, where there are any.
 pub fn narrow(
     d: &[u8],
     k: usize,
@@ -294,14 +299,14 @@ pub fn narrow(
     t: &mut [u64],
     x: usize,
 ) -> inplace::Change
-    requires { ⌜ (k ≤ 64) × Whole k (now d) × Kinds (machine k (now d)) (stateCount (now d)) k (now kinds) at × (at + 64 ≤ length (now kinds))
+    requires { ⌜ (k ≤ 64) × Whole k (now d) × Kinds (machine k (now d)) (stateCount (now d)) k (now kinds) at
         × (64 * x + 64 ≤ length (now t)) × Alphabet k (row (now t) x) × Tidy (row (now t) x) ⌝ }
     ensures { λ r. ⌜ InPlace (machine k (now (d .entry)) ∷ []) (regular 0 0) (x ∷ []) [] (now (t .entry)) (now (t .exit)) r ⌝ }
 {
     let start = 64 * x;
     let allowed = t[start];
-    let mut tos = [0u32; 32];
-    let mut sets = [0u32; 64];
+    let mut tos = [0u64; 32];
+    let mut sets = [0u64; 64];
     let longest = words::highest(allowed);
     let asked = forward(d, k, kinds, at, &mut tos, t, x, longest, &mut sets);
     let ends = lengths(allowed, automata::accepting(d), &sets);

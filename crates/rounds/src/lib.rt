@@ -32,7 +32,7 @@ pub fn settle(file: &[u8], p: layout::Parts, table: &mut [u64]) -> u32
     ensures { λ r. ⌜ now (table .exit) ≡ settled (problemIn (now (file .entry)) p) (now (table .entry)) ⌝ }
 {
     let constraints = list::of_file(file, p);
-    let mut kinds = [0u64; 512];
+    let mut kinds = [0u64; 520];
     steps::kinds(file, p, &mut kinds);
     let mut n: u32 = 1;
     let mut before = bits(table);

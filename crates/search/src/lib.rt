@@ -159,7 +159,7 @@ pub fn search(
     let end = p.constraints_at;
     room::start(&file[..end], room, m);
     let ix = index::of_file(file, p);
-    let mut kinds = [0u64; 512];
+    let mut kinds = [0u64; 520];
     steps::kinds(file, p, &mut kinds);
     let outcome = explore(file, p, &ix, &kinds, budget, room, answer);
     room::clear(&mut room[..all]);

@@ -17,7 +17,7 @@ use Rattle.model.specs.Support.{touches, narrowed}
 use Rattle.model.specs.Rounds.{everyValue, settled}
 use Rattle.laws.specs.Inclusion.{In, Below}
 use Rattle.laws.specs.Lent.{Stable}
-use Rattle.laws.proofs.ListLaws.{getD-in, in-getD}
+use Rattle.laws.proofs.ListLaws.{getD-in, in-getD, never-true}
 use Rattle.laws.proofs.WordLaws.{zero-bit}
 use Rattle.laws.proofs.TableLaws.{below-refl, below-trans, below-antisym}
 use Rattle.laws.proofs.DomainLaws.{stringsOf-sub, valuesOf-sub, text-within, owner-text, str≢num}
@@ -27,7 +27,7 @@ use Rattle.laws.proofs.RoundLaws.{settled-below, settled-above, settled-stable}
 use Rattle.laws.proofs.NodeLaws.{firsts, every-value-fits, fits-every-value}
 use Rattle.shortcuts.specs.Waiting.{Running, Trimming}
 use Rattle.shortcuts.proofs.LocalLaws.{Ranged, narrowed-local, apart-unchanged, child-rests}
-use Rattle.shortcuts.proofs.WaitLaws.{not-true, in-trims, in-constraints, by-step, ranged-trim, Wakes, resting-turn, above-step}
+use Rattle.shortcuts.proofs.WaitLaws.{in-trims, in-constraints, by-step, ranged-trim, Wakes, resting-turn, above-step}
 
 -- ---- trimmings
 
@@ -175,12 +175,12 @@ every-value-above P S U p e =
     fits-every-value P U _ (record { texts-in = λ x h. stringsOf-sub S U p x _ (f .texts-in x h); values-in = λ n h. valuesOf-sub (P .strings) S U p n _ (f .values-in n h) })
 
 pub dead-below : (P : Problem) (S U : List ℕ) → Below S U → everyValue P U ≡ false → everyValue P S ≡ false
-dead-below P S U p d = not-true (everyValue P S) (λ e. false≢true (sym d ∙ every-value-above P S U p e))
+dead-below P S U p d = never-true (everyValue P S) (λ e. false≢true (sym d ∙ every-value-above P S U p e))
 
 module _ (P : Problem) (U : List ℕ) where
   -- a string without a length, a number without a value: what code tests
   pub dead-length : (x : ℕ) → x < P .strings → word U (64 * x) ≡ 0 → everyValue P U ≡ false
-  dead-length x h z = not-true (everyValue P U) (λ e.
+  dead-length x h z = never-true (everyValue P U) (λ e.
       let m = every-value-fits P U e .texts-in x h in
       let q : 64 * x + 0 ≡ 64 * x = omega arith in
       let w : List ℕ = firsts P U .text x in

@@ -14,12 +14,11 @@ use Rattle.model.specs.Domains.{owner}
 use Rattle.model.specs.Constraints.{Problem, Constraint, always, variables}
 use Rattle.model.specs.Support.{touches, narrowed}
 use Rattle.laws.specs.Inclusion.{In, Below}
-use Rattle.laws.proofs.ListLaws.{and-true, true-and}
+use Rattle.laws.proofs.ListLaws.{and-true, true-and, never-true}
 use Rattle.laws.proofs.WordLaws.{zero-bit, or-bit-left, or-bit-right, bit-sub, sub-within}
 use Rattle.laws.proofs.TableLaws.{below-of, size-eq}
 use Rattle.laws.proofs.SupportLaws.{touched}
 use Rattle.shortcuts.specs.Waiting.{Running}
-use Rattle.shortcuts.proofs.WaitLaws.{not-true}
 
 -- ---- a turn that wakes enough
 
@@ -37,11 +36,11 @@ running-quiet P T U waits waits′ j r f still = record { under = r .under; abov
   where
     go : (d : ℕ) → d < length (P .constraints) → waits′ d ≡ false → (t : Bool) → eqb d j ≡ t → narrowed P (getD (P .constraints) d (always 0)) U ≡ U
     go d h q true e = subst (λ (i : ℕ). narrowed P (getD (P .constraints) i (always 0)) U ≡ U) (sym (eqb-true d j e)) f
-    go d h q false e = r .resting .rests d h (not-true (waits d) (λ t. false≢true (sym q ∙ still d h (eqb-false d j e) t)))
+    go d h q false e = r .resting .rests d h (never-true (waits d) (λ t. false≢true (sym q ∙ still d h (eqb-false d j e) t)))
 
 -- the start of a child: enough that the constraints that name the variable of word k wait
 pub woken-named : (P : Problem) (c : Constraint) (k : ℕ) (w : Bool) → (In (owner (P .strings) k) (variables c) → w ≡ true) → w ≡ false → touches P c k ≡ false
-woken-named P c k w f q = not-true (touches P c k) (λ t. false≢true (sym q ∙ f (touched P c k t)))
+woken-named P c k w f q = never-true (touches P c k) (λ t. false≢true (sym q ∙ f (touched P c k t)))
 
 -- ---- what waits as the bits of a number: the measure of the loop is 65 for each bit of the table, and 1 for each step that waits
 

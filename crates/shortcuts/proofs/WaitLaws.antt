@@ -21,10 +21,6 @@ use Rattle.laws.proofs.SupportLaws.{narrowed-length, narrowed-mono, narrowed-ag
 use Rattle.shortcuts.specs.Waiting.{Apart, Resting}
 use Rattle.shortcuts.proofs.LocalLaws.{Ranged, narrowed-local}
 
-pub not-true : (t : Bool) → (t ≡ true → ⊥) → t ≡ false
-not-true true f = absurd (f refl)
-not-true false f = refl
-
 -- ---- the steps of a problem
 
 pub in-trims : (P : Problem) (x : ℕ) → x < P .strings → In (always x) (steps P)

@@ -1,6 +1,6 @@
 -- The step of Regular on a lent table, with an automaton that lies in the file. Assumes nothing.
 use mathlib.Core.Path.{_≡_, refl, sym, ap, subst, _∙_}
-use mathlib.Core.Logic.{_≢_, ⊎-elim, inr}
+use mathlib.Core.Logic.{⊎-elim, inr}
 use mathlib.Core.Bool.{true}
 use mathlib.Core.List.{List, [], _∷_}
 use Prim.Native.Nat.{ℕ, zero, suc, _+_, _-_, _*_, _≤_, _<_}
@@ -9,14 +9,14 @@ use lib.Dec.{eqb}
 use lib.ListN.{length, take, drop}
 use lib.Seq.{drop-drop}
 use Rattle.model.specs.Domains.{row}
-use Rattle.model.specs.Constraints.{Problem, regular, width}
+use Rattle.model.specs.Constraints.{Automaton, Problem, regular, width}
 use Rattle.model.specs.Reading.{symbolsBelow}
 use Rattle.laws.specs.Lent.{lendable}
 use Rattle.laws.proofs.ListLaws.{and-true}
 use Rattle.laws.proofs.CallLaws.{lendable-length}
 use Rattle.automata.specs.Machine.{stateCount, machine, Whole}
-use Rattle.automata.specs.Kinds.{AllHeld, AllKinds, Kinds, Separate}
-use Rattle.automata.proofs.KindLaws.{separate-kinds}
+use Rattle.automata.specs.Kinds.{AllHeld, AllKinds, Kinds}
+use Rattle.automata.proofs.KindLaws.{no-words}
 use Rattle.automata.specs.Walk.{Held, Starts}
 use Rattle.regular.specs.PlaceSets.{Alphabet}
 use Rattle.regular.proofs.StateLaws.{row-alphabet}
@@ -77,25 +77,18 @@ module _ (file : List ℕ) (p : Parts) (ks T : List ℕ) (x d : ℕ)
         ∙ ap (take (p .end - p .«automata_at» - r)) (drop-drop r (p .«automata_at») file)
         ∙ ap (λ (n : ℕ). take n (drop (p .«automata_at» + r) file)) n
 
-    -- what the step asks but for its kinds
-    abbrev asks : List ℕ → ℕ → Type 0
-    asks own i = (p .k ≤ 64) × Whole (p .k) (from-byte r) × Kinds (machine (p .k) (from-byte r)) (stateCount (from-byte r)) (p .k) own i × (i + 64 ≤ length own)
+    abbrev A : Automaton
+    A = machine (p .k) (from-byte r)
+
+    -- by the kinds of the file's automata, or without
+    kinds-there : Kinds A (stateCount (from-byte r)) (p .k) ks (65 * d)
+    kinds-there = ⊎-elim (λ z. no-words ks (65 * d) z A (stateCount (from-byte r)) (p .k))
+        (λ g. subst (λ (b : List ℕ). Kinds (machine (p .k) b) (stateCount b) (p .k) ks (65 * d)) lent (g .all .each d r (pre .4) at)) (pre .2)
+
+    pub machine-there : (p .k ≤ 64) × Whole (p .k) (from-byte r) × Kinds A (stateCount (from-byte r)) (p .k) ks (65 * d)
         × (64 * x + 64 ≤ length T) × Alphabet (p .k) (row T x) × Tidy (row T x)
-
-    asks-by : (own : List ℕ) (i : ℕ) → Kinds (machine (p .k) (from-byte r)) (stateCount (from-byte r)) (p .k) own i → i + 64 ≤ length own → asks own i
-    asks-by own i k l = (pre .0 .fits .symbols-most, subst (Whole (p .k)) lent (at .whole), k, l, string-inside, row-alphabet (p .k) (p .s) T x low (pre .3), pre .5)
-
-    -- by the kinds of the file's automata
-    pub machine-there : length ks ≢ 0 → asks ks (64 * d)
-    machine-there some = ⊎-elim (λ e. absurd (some e)) (λ g.
-        let h = pre .4 in
-        let m = pre .0 .fits .automata-most in
-        let z = g .size in
-        asks-by ks (64 * d) (subst (λ (b : List ℕ). Kinds (machine (p .k) b) (stateCount b) (p .k) ks (64 * d)) lent (g .all .each d r h at)) (omega arith)) (pre .2)
-
-    -- by each symbol alone
-    pub machine-alone : (own : List ℕ) → Separate own → asks own 0
-    machine-alone own w = let l = w .size in asks-by own 0 (separate-kinds own w (machine (p .k) (from-byte r)) (stateCount (from-byte r)) (p .k) (pre .0 .fits .symbols-most)) (omega arith)
+    machine-there =
+        (pre .0 .fits .symbols-most, subst (Whole (p .k)) lent (at .whole), kinds-there, string-inside, row-alphabet (p .k) (p .s) T x low (pre .3), pre .5)
 
     pub regular-at-narrows : (U : List ℕ) (n : Change) → InPlace (machine (p .k) (from-byte r) ∷ []) (regular 0 0) (x ∷ []) [] T U n → Narrows P (regular x d) T U n
     unfolding partsOf
@@ -111,5 +104,5 @@ module _ (file : List ℕ) (p : Parts) (u : Usable file p) where
   unfolding partsOf
   kinds-asks = (u .fits .symbols-most, u .fits .automata-most, record { automata = problemIn file p .automata; read = usable-holds file p u .machines })
 
-  pub kinds-are : (ks : List ℕ) → length ks ≡ 512 → AllKinds (p .k) (p .d) (take (p .end - p .«automata_at») (drop (p .«automata_at») file)) ks → KindsIn file p ks
+  pub kinds-are : (ks : List ℕ) → length ks ≡ 520 → AllKinds (p .k) (p .d) (take (p .end - p .«automata_at») (drop (p .«automata_at») file)) ks → KindsIn file p ks
   kinds-are ks l a = inr (record { size = l; all = a })

@@ -48,9 +48,9 @@ pub record Leaves (P : Problem) (c : Constraint) (T U : List ℕ) (left : Bool) 
   pub done : left ≡ true → U ≡ narrowed P c T
   pub none : left ≡ false → cleared P c U ≡ narrowed P c T
 
--- the kinds of all automata of a file, 64 words for each
+-- the kinds of all automata of a file, 65 words for each
 pub record AllKindsIn (file : List ℕ) (p : Parts) (ks : List ℕ) : Type 0 where
-  pub size : length ks ≡ 512
+  pub size : length ks ≡ 520
   pub all : AllKinds (p .k) (p .d) (take (p .end - p .«automata_at») (drop (p .«automata_at») file)) ks
 
 -- these, or no words at all

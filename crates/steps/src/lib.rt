@@ -21,9 +21,9 @@ ghost use Rattle.inplace.specs.InPlace.{taken};
 ghost use Rattle.steps.specs.Step.{Step, Narrows, TidyIn, Leaves, KindsIn};
 ghost use Rattle.steps.specs.Names.{texts, numbers, Naming, Inside, Tidies, Blanked};
 
-// The kinds of the symbols of all automata of the file, made once for many steps, into 512 words that are 0.
+// The kinds of the symbols of all automata of the file, made once for many steps, into 520 words that are 0.
 pub fn kinds(file: &[u8], p: layout::Parts, ks: &mut [u64])
-    requires { ⌜ Usable (now file) p × (now ks ≡ replicate 512 0) ⌝ }
+    requires { ⌜ Usable (now file) p × (now ks ≡ replicate 520 0) ⌝ }
     ensures { λ r. ⌜ KindsIn (now (file .entry)) p (now (ks .exit)) ⌝ }
 {
     let start = p.automata_at;
@@ -31,7 +31,7 @@ pub fn kinds(file: &[u8], p: layout::Parts, ks: &mut [u64])
     automata::kinds(&file[start..end], p.k, p.d, ks)
 }
 
-// Regular(X, D), with the automata of the file; without kinds, where none are lent.
+// Regular(X, D), with the automata of the file, and their kinds, where they are lent.
 fn regular_at(
     file: &[u8],
     p: layout::Parts,
@@ -47,11 +47,7 @@ fn regular_at(
     let automata = p.automata_at;
     let end = p.end;
     let at = automata + automata::start(&file[automata..end], p.k, d);
-    if kinds.len() == 0 {
-        let own = automata::separate();
-        return regular::narrow(&file[at..end], p.k, &own, 0, table, x);
-    }
-    regular::narrow(&file[at..end], p.k, kinds, 64 * d, table, x)
+    regular::narrow(&file[at..end], p.k, kinds, 65 * d, table, x)
 }
 
 // The step of the constraint that a record of the file is, on a table in which the rows that it names are tidy.

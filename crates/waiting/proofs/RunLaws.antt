@@ -12,6 +12,7 @@ use Rattle.model.specs.Words.{bit, bits, Words, size}
 use Rattle.model.specs.Constraints.{Problem, always, width}
 use Rattle.model.specs.Solutions.{WellFormed}
 use Rattle.model.specs.Support.{narrowed}
+use Rattle.laws.proofs.ListLaws.{never-true}
 use Rattle.laws.specs.Inclusion.{Below}
 use Rattle.laws.specs.Lent.{lendable}
 use Rattle.laws.proofs.WordLaws.{zero-bit, sub-within, of-or-bit}
@@ -19,7 +20,7 @@ use Rattle.laws.proofs.TableLaws.{bits-most}
 use Rattle.laws.proofs.SupportLaws.{narrowed-below}
 use Rattle.laws.proofs.CallLaws.{lendable-below}
 use Rattle.shortcuts.specs.Waiting.{Apart, Running}
-use Rattle.shortcuts.proofs.WaitLaws.{not-true, Wakes}
+use Rattle.shortcuts.proofs.WaitLaws.{Wakes}
 use Rattle.shortcuts.proofs.RunningLaws.{running-turn, running-done, running-stuck}
 use Rattle.shortcuts.proofs.TurnLaws.{pending-still, pending-woken, running-quiet, fewer-bits}
 use Rattle.waiting.specs.declared.Turn.the-variants.{Quiet, Woken, Dead}
@@ -29,9 +30,9 @@ use Rattle.waiting.specs.Turns.{Inside, Pending, Enough, TidyRows, Turne
 module _ {P : Problem} (w j more : ℕ) (here : bit w j ≡ true) {W Z : List ℕ} (table : Z ≡ narrowed P (getD (P .constraints) j (always 0)) W) (e : Enough P j W Z more) where
   pub wakes-enough : Wakes P (P .constraints) j (bit w) (bit (bitOr (w - 2 ^ j) more)) W
   wakes-enough = record {
-    rested = λ d h ne q. not-true (bit w d) (λ t. false≢true (sym q ∙ pending-still w j more d here ne t));
+    rested = λ d h ne q. never-true (bit w d) (λ t. false≢true (sym q ∙ pending-still w j more d here ne t));
     apart = λ d h ne q. subst (Apart P (getD (P .constraints) d (always 0)) W) table
-        (e .apart d h ne (not-true (bit more d) (λ t. false≢true (sym q ∙ pending-woken w j more d t))));
+        (e .apart d h ne (never-true (bit more d) (λ t. false≢true (sym q ∙ pending-woken w j more d t))));
   }
 
 -- what a turn lowers: 65 for each bit of the table, and 1 for each constraint that waits

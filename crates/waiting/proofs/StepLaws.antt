@@ -18,7 +18,7 @@ use Rattle.model.specs.Layout.{Bytes, part}
 use Rattle.model.specs.Reading.{decode}
 use Rattle.laws.specs.Inclusion.{In, Below}
 use Rattle.laws.specs.Lent.{lendable}
-use Rattle.laws.proofs.ListLaws.{getD-in, true-and}
+use Rattle.laws.proofs.ListLaws.{getD-in, true-and, never-true}
 use Rattle.laws.proofs.WordLaws.{bit-le, bit-sub, sub-within}
 use Rattle.laws.proofs.TableLaws.{struck-none, struck-size}
 use Rattle.laws.proofs.SupportLaws.{touched, touched-text, narrowed-below}
@@ -27,7 +27,6 @@ use Rattle.laws.proofs.CallLaws.{lendable-length}
 use Rattle.shortcuts.specs.Waiting.{Unchanged, Apart}
 use Rattle.shortcuts.proofs.LocalLaws.{apart-unchanged}
 use Rattle.shortcuts.proofs.RunningLaws.{dead-length}
-use Rattle.shortcuts.proofs.WaitLaws.{not-true}
 use Rattle.layout.specs.declared.Parts.{Parts}
 use Rattle.records.specs.declared.Record.{Record}
 use Rattle.records.specs.declared.Record.the-variants.{Eq, Neq, Rev, Cat, Sub, Len, Regular}
@@ -183,7 +182,7 @@ module _ {file : List ℕ} {p : Parts} {ix T : List ℕ} {j : ℕ} {r : Record} 
               (apart-unchanged P (constraintOf r) (getD (P .constraints) d (always 0)) T (λ v m k.
               subst (λ (Y : List ℕ). Unchanged P T Y v) (s .table left)
               (waking-apart P ix (t .index) (constraintOf r) n w in-problem T U s left d l
-              (not-true (bit w d) (λ x. false≢true (sym q ∙ bit-sub w j d own ∙ true-and x (ap not (ne-eqb j d (λ e. ne (sym e))))))) v m k)));
+              (never-true (bit w d) (λ x. false≢true (sym q ∙ bit-sub w j d own ∙ true-and x (ap not (ne-eqb j d (λ e. ne (sym e))))))) v m k)));
           inside = λ d q. waking-inside P ix (t .index) (constraintOf r) n w in-problem d (sub-within w j own d q);
         }
 

@@ -1,16 +1,15 @@
 -- Words with no bit at k or above are the numbers below 2 ^ k. Assumes nothing.
-use mathlib.Core.Path.{_≡_, refl, sym, subst, _∙_}
-use mathlib.Core.Bool.{Bool, true, false, _&&_, false≢true}
-use Prim.Native.Nat.{ℕ, _-_, _%_, _^_, _<_}
-use native.Mathlib.Nat.{mod-lt}
+use mathlib.Core.Path.{_≡_, refl, sym, _∙_}
+use mathlib.Core.Bool.{Bool, true, false, false≢true}
+use Prim.Native.Nat.{ℕ, _-_, _^_, _<_}
 use native.Mathlib.Omega.{arith}
 use lib.Dec.{leb, ltb}
 use lib.Pow.{pow-pos}
 use borrow.Author.Tests.{ltb-true, ltb-false, le-leb, lt-leb, lt-ltb}
 use Rattle.model.specs.Words.{bit, noneFrom}
 use Rattle.laws.proofs.ListLaws.{in-all}
-use Rattle.laws.proofs.WordLaws.{word-ext, and-yes, bit-high, of-bits, in-bits, noneFrom-bits}
-use Rattle.laws.proofs.ShiftLaws.{bit-mod}
+use Rattle.laws.proofs.WordLaws.{bit-high, of-bits, in-bits, noneFrom-bits}
+use Rattle.laws.proofs.ShiftLaws.{low-word}
 
 -- a number below 2 ^ k has no bit at k or above
 pub below-noneFrom : (k w : ℕ) → w < 2 ^ k → noneFrom k w ≡ true
@@ -19,11 +18,7 @@ below-noneFrom k w h = in-all (λ b. ltb b k) _ (λ b m. lt-ltb b k (bit-high w 
 
 -- and a word of 64 bits that has none is below 2 ^ k
 pub noneFrom-below : (k w : ℕ) → w < 2 ^ 64 → noneFrom k w ≡ true → w < 2 ^ k
-noneFrom-below k w h e = subst (λ (v : ℕ). v < 2 ^ k) (word-ext (w % 2 ^ k) w (λ b. bit-mod w k b ∙ kept b (bit w b) refl)) (mod-lt w (pow-pos k))
-  where
-    kept : (b : ℕ) (t : Bool) → bit w b ≡ t → (bit w b && ltb b k) ≡ bit w b
-    kept b true q = rw (lt-ltb b k (noneFrom-bits k w e b (in-bits w b q (bit-high w 64 b h q)))) (and-yes (bit w b))
-    kept b false q = rw q
+noneFrom-below k w h e = low-word k w (λ b q. noneFrom-bits k w e b (in-bits w b q (bit-high w 64 b h q)))
 
 -- the test that the code makes
 pub leb-noneFrom : (k w : ℕ) → w < 2 ^ 64 → leb w (2 ^ k - 1) ≡ noneFrom k w

@@ -3,6 +3,7 @@ use native.Mathlib.Omega.{arith}
 use Rattle.model.specs.Constraints.{move}
 use Rattle.automata.specs.Machine.{machine}
 use Rattle.words.proofs.EndLaws.{lowest-off}
+use Rattle.automata.proofs.MachineLaws.{mark-next}
 use Rattle.automata.proofs.SetLaws.{Walked, Hit, walked-start, walked-next, hit-none, hit-one, hit-skip}
 use borrow.Author.Needs.{needs}
 use Rattle.automata.proofs.enters.Statement.{statement}
@@ -20,23 +21,28 @@ loop-holds c = walked-start _ _ _ _ (λ i t x. x .0) (c .below .ensures)
 next-requires : tie.Need-next-requires Inv-loop μ-loop
 next-requires c κs = (search needs, search needs, search needs, walked-next _ _ _ _ _ _ (c .before .before .loop .inv) (c .lowest .ensures))
 
+has-requires : tie.Need-has-requires Inv-loop μ-loop
+has-requires c κs = let e = c .mark .ensures in let h = c .before .next .ensures .1 in omega arith
+
 returns : tie.Need-returns Inv-loop μ-loop
 returns c =
-    let l = c .before .before .before in
-    let e = sym (c .before .has .ensures) ∙ c .if1 .taken in
-    hit-one _ _ _ _ _ (l .before .before .loop .inv) _ _ (l .lowest .ensures) (c .before .before .next .ensures .0) e
+    let m = c .before .before in
+    let l = m .before .before in
+    hit-one _ _ _ _ _ (l .before .before .loop .inv) _ _ (search needs) (l .lowest .ensures) (mark-next _ (m .mark .ensures) (m .before .next .ensures .0))
+    (sym (c .before .has .ensures) ∙ c .if1 .taken)
 
 sub-rest : tie.Need-sub-rest Inv-loop μ-loop
-sub-rest c = lowest-off _ _ _ (c .before .before .before .before .lowest .ensures) (c .singleton .ensures) .0
+sub-rest c = lowest-off _ _ _ (c .before .before .before .before .before .lowest .ensures) (c .singleton .ensures) .0
 
 loop-less : tie.Need-loop-less Inv-loop μ-loop
-loop-less c = lowest-off _ _ _ (c .before .before .before .before .lowest .ensures) (c .singleton .ensures) .1
+loop-less c = lowest-off _ _ _ (c .before .before .before .before .before .lowest .ensures) (c .singleton .ensures) .1
 
 loop-again : tie.Need-loop-again Inv-loop μ-loop
 loop-again c =
-    let l = c .before .before .before .before in
-    let e = sym (c .before .before .has .ensures) ∙ c .before .if1 .left in
-    hit-skip _ _ _ _ _ (l .before .before .loop .inv) _ _ (l .lowest .ensures) (c .before .before .before .next .ensures .0) _ (c .singleton .ensures) e
+    let m = c .before .before .before in
+    let l = m .before .before in
+    hit-skip _ _ _ _ _ (l .before .before .loop .inv) _ _ (search needs) (l .lowest .ensures) (mark-next _ (m .mark .ensures) (m .before .next .ensures .0)) _
+    (c .singleton .ensures) (sym (c .before .before .has .ensures) ∙ c .before .if1 .left)
 
 returns-2 : tie.Need-returns-2 Inv-loop μ-loop
 returns-2 c = let e : c .before .loop .rest ≡ 0 = omega arith in hit-none _ _ _ _ _ (c .before .loop .inv) e
@@ -45,5 +51,5 @@ pub enters-spec : {M : Type 1} → statement M
 enters-spec =
     tie.close
     (tie.spec
-    Inv-loop μ-loop (λ c κs. search needs) loop-holds (λ c κs. search needs) next-requires (λ c κs. search needs) returns (λ c κs. search needs) sub-rest
-    loop-less loop-again returns-2)
+    Inv-loop μ-loop (λ c κs. search needs) loop-holds (λ c κs. search needs) next-requires (λ c κs. search needs) has-requires returns
+    (λ c κs. search needs) sub-rest loop-less loop-again returns-2)

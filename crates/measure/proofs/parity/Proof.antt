@@ -4,27 +4,27 @@ use mathlib.Core.Bool.{true}
 use mathlib.Core.List.{List, [], _∷_}
 use Prim.Native.Nat.{ℕ, zero, suc, _+_, _-_, _*_, _≤_, _<_}
 use native.Mathlib.Omega.{arith}
-use lib.Dec.{ltb}
 use lib.ListN.{length, getD, set, take, drop, replicate, length-set}
 use lib.Seq.{getD-drop, getD-set-other, take-set-le, drop-set-add}
 use borrow.Author.Needs.{needs}
-use borrow.Author.Tests.{ltb-true}
 use Rattle.model.specs.Lists.{select, all, from, upto}
 use Rattle.model.specs.Words.{bit, bits, noneFrom}
 use Rattle.model.specs.Layout.{little, part}
+use Rattle.model.specs.Reading.{known}
 use Rattle.laws.proofs.ListLaws.{of-all, getD-in}
 use Rattle.automata.specs.Machine.{Whole, stateCount}
+use Rattle.automata.proofs.MachineLaws.{state-known}
 use Rattle.measure.proofs.parity.Statement.{statement}
 use Rattle.measure.proofs.parity.Tie as tie
 
 -- ---- a move put anew
 
-getD-set-below : (l : List ℕ) (i j v b : ℕ) → v < b → getD l j 0 < b → getD (set l i v) j 0 < b
-getD-set-below [] i j v b h k = k
-getD-set-below (x ∷ xs) zero zero v b h k = h
-getD-set-below (x ∷ xs) zero (suc j) v b h k = k
-getD-set-below (x ∷ xs) (suc i) zero v b h k = k
-getD-set-below (x ∷ xs) (suc i) (suc j) v b h k = getD-set-below xs i j v b h k
+getD-set-known : (l : List ℕ) (i j v q : ℕ) → known q v ≡ true → known q (getD l j 0) ≡ true → known q (getD (set l i v) j 0) ≡ true
+getD-set-known [] i j v q h k = k
+getD-set-known (x ∷ xs) zero zero v q h k = h
+getD-set-known (x ∷ xs) zero (suc j) v q h k = k
+getD-set-known (x ∷ xs) (suc i) zero v q h k = k
+getD-set-known (x ∷ xs) (suc i) (suc j) v q h k = getD-set-known xs i j v q h k
 
 module _ (k : ℕ) (bs : List ℕ) (i v : ℕ) (behind : 4 ≤ i) where
   count-set : stateCount (set bs (1 + i) v) ≡ stateCount bs
@@ -40,8 +40,8 @@ module _ (k : ℕ) (bs : List ℕ) (i v : ℕ) (behind : 4 ≤ i) where
     long = let e = ap (λ (q : ℕ). q * k) count-set in let l = length-set bs (1 + i) v in let p = w .long in omega arith;
     accepting-known = ap₂ (λ (q : ℕ) (l : List ℕ). noneFrom q (little l)) count-set accepting-set ∙ w .accepting-known;
     moves-known = λ j l.
-        subst (λ (q : ℕ). getD (set bs (1 + i) v) (5 + j) 0 < q) (sym count-set)
-        (getD-set-below bs (1 + i) (5 + j) v (stateCount bs) h (w .moves-known j (subst (λ (q : ℕ). j < q * k) count-set l)));
+        subst (λ (q : ℕ). known q (getD (set bs (1 + i) v) (5 + j) 0) ≡ true) (sym count-set)
+        (getD-set-known bs (1 + i) (5 + j) v (stateCount bs) (state-known (stateCount bs) v h) (w .moves-known j (subst (λ (q : ℕ). j < q * k) count-set l)));
   }
 
 -- ---- before the loop
@@ -49,8 +49,8 @@ module _ (k : ℕ) (bs : List ℕ) (i v : ℕ) (behind : 4 ≤ i) where
 moves : List ℕ
 moves = 1 ∷ replicate 127 0
 
-moves-low : all (λ p. ltb p 2) moves ≡ true
-unfolding moves all
+moves-low : all (known 2) moves ≡ true
+unfolding moves all known
 moves-low = refl
 
 moves-length : length moves ≡ 128
@@ -73,7 +73,7 @@ bytes-whole = record {
   accepting-known = state-low;
   moves-known = λ j h.
       let l = moves-length in
-      subst (λ (p : ℕ). p < 2) (getD-drop 5 bytes j 0) (ltb-true (getD moves j 0) 2 (of-all (λ p. ltb p 2) moves-low (getD-in moves j 0 (omega arith))));
+      ap (known 2) (sym (getD-drop 5 bytes j 0)) ∙ of-all (known 2) moves-low (getD-in moves j 0 (omega arith));
 }
 
 -- two states, and a whole automaton over 64 symbols

@@ -10,6 +10,7 @@ use Rattle.regular.proofs.backward.Kinds as backward-kinds
 use Rattle.regular.proofs.+backward.Lts-backward as backward-lts
 use Rattle.inplace.proofs.either.Reads as either-reads
 use Rattle.inplace.proofs.put.Reads as put-reads
+use Rattle.automata.proofs.states_in.Reads as states-in-reads
 use Rattle.regular.proofs.ending.Reads as ending-reads
 use Rattle.regular.proofs.kept.Reads as kept-reads
 use Rattle.regular.proofs.+backward.{statement}
@@ -28,6 +29,8 @@ backward-below t =
 -- what each call asks and tells, in the order of the calls' names; of `backward` itself only where the measure has fallen
 abbrev claims : ℕ → backward-lts.Claims
 claims t = (
+  states-in-reads.Asked,
+  states-in-reads.Learnt,
   ending-reads.Asked,
   ending-reads.Learnt,
   backward-below t,
@@ -40,21 +43,27 @@ claims t = (
   either-reads.Learnt,
 )
 
-backward-mul-ending : (t : ℕ) → backward-lts.Need-mul-ending (claims t) (backward-at t) backward.Post
-backward-mul-ending t c = search needs
+backward-mul-states-in : (t : ℕ) → backward-lts.Need-mul-states-in (claims t) (backward-at t) backward.Post
+backward-mul-states-in t c = search needs
 
-backward-element-copy-out-ending : (t : ℕ) → backward-lts.Need-element-copy-out-ending (claims t) (backward-at t) backward.Post
-backward-element-copy-out-ending t c = search needs
+backward-element-copy-out-states-in : (t : ℕ) → backward-lts.Need-element-copy-out-states-in (claims t) (backward-at t) backward.Post
+backward-element-copy-out-states-in t c = search needs
+
+backward-states-in-requires : (t : ℕ) → backward-lts.Need-states-in-requires (claims t) (backward-at t) backward.Post
+backward-states-in-requires t c κs = search needs
 
 backward-ending-requires : (t : ℕ) → backward-lts.Need-ending-requires (claims t) (backward-at t) backward.Post
 backward-ending-requires t c κs = (search needs, search needs)
 
 backward-returns : (t : ℕ) → backward-lts.Need-returns (claims t) (backward-at t) backward.Post
 backward-returns t c =
-    let k = c .before .before .before in
+    let e = c .before .before .before in
+    let k = e .before in
     let s = k .before .before .before in
-    let words = words-of (s .args .t .now) (λ i. k .slice-known .given i .fits) in
-    (level-first _ _ _ _ _ _ _ (s .pre .1 .0 .whole) words (s .pre .1 .1) _ _ (c .before .before .if1 .taken) (c .ending .ensures) (s .pre .1 .3), s .pre .1 .2)
+    let words = words-of (s .args .t .now) (λ i. k .slice-known .given i .fits) in (
+      level-first _ _ _ _ _ _ _ (s .pre .1 .0 .whole) words (s .pre .1 .1) _ _ _ (e .if1 .taken) (c .before .states-in .ensures) (c .ending .ensures) (s .pre .1 .3),
+      s .pre .1 .2,
+    )
 
 backward-add-next : (t : ℕ) → backward-lts.Need-add-next (claims t) (backward-at t) backward.Post
 backward-add-next t c = search needs
@@ -70,11 +79,17 @@ backward-backward-requires t c κs =
     let words = words-of (s .args .t .now) (λ i. k .slice-known .given i .fits) in
     (omega arith, (s .pre .1 .0, level-going _ _ _ _ _ _ _ (s .pre .1 .0 .whole) words (s .pre .1 .1) (e .if1 .left), s .pre .1 .2, s .pre .1 .3))
 
-backward-mul-from : (t : ℕ) → backward-lts.Need-mul-from (claims t) (backward-at t) backward.Post
-backward-mul-from t c = search needs
+backward-mul-states-in-2 : (t : ℕ) → backward-lts.Need-mul-states-in-2 (claims t) (backward-at t) backward.Post
+backward-mul-states-in-2 t c = search needs
 
-backward-element-copy-out-from : (t : ℕ) → backward-lts.Need-element-copy-out-from (claims t) (backward-at t) backward.Post
-backward-element-copy-out-from t c = search needs
+backward-element-copy-out-states-in-2 : (t : ℕ) → backward-lts.Need-element-copy-out-states-in-2 (claims t) (backward-at t) backward.Post
+backward-element-copy-out-states-in-2 t c = search needs
+
+backward-states-in-requires-2 : (t : ℕ) → backward-lts.Need-states-in-requires-2 (claims t) (backward-at t) backward.Post
+backward-states-in-requires-2 t c κs = search needs
+
+backward-cast-if2 : (t : ℕ) → backward-lts.Need-cast-if2 (claims t) (backward-at t) backward.Post
+backward-cast-if2 t c = search needs
 
 backward-add-if2 : (t : ℕ) → backward-lts.Need-add-if2 (claims t) (backward-at t) backward.Post
 backward-add-if2 t c = search needs
@@ -90,18 +105,19 @@ backward-same-length t c = search needs
 
 backward-returns-2 : (t : ℕ) → backward-lts.Need-returns-2 (claims t) (backward-at t) backward.Post
 backward-returns-2 t c =
-    let b = c .before .before .before .before .before in
+    let i = c .before in
+    let b = i .before .before .before .before .before in
     let e = b .before .before .before .before .before in
     let k = e .before in
     let s = k .before .before .before in
     let words = words-of (s .args .t .now) (λ i. k .slice-known .given i .fits) in (
-      level-all _ _ _ _ _ _ _ (s .pre .1 .0 .whole) words (s .pre .1 .1) (e .if1 .left) _ _ _ (b .backward .ensures .0) (c .if2 .taken),
+      level-all _ _ _ _ _ _ _ (s .pre .1 .0 .whole) words (s .pre .1 .1) (e .if1 .left) _ _ _ (b .backward .ensures .0) _ (i .before .states-in2 .ensures) (c .if2 .taken),
       b .backward .ensures .1,
     )
 
 backward-mul-kept : (t : ℕ) → backward-lts.Need-mul-kept (claims t) (backward-at t) backward.Post
 backward-mul-kept t c =
-    let b = c .before .before .before .before .before .before in
+    let b = c .before .before .before .before .before .before .before in
     let e = b .before .before .before .before .before in
     let k = e .before in
     let s = k .before .before .before in
@@ -111,7 +127,7 @@ backward-mul-kept t c =
 
 backward-slice-read-kept : (t : ℕ) → backward-lts.Need-slice-read-kept (claims t) (backward-at t) backward.Post
 backward-slice-read-kept t c =
-    let b = c .before .before .before .before .before .before .before in
+    let b = c .before .before .before .before .before .before .before .before in
     let e = b .before .before .before .before .before in
     let k = e .before in
     let s = k .before .before .before in
@@ -120,7 +136,7 @@ backward-slice-read-kept t c =
 
 backward-kept-requires : (t : ℕ) → backward-lts.Need-kept-requires (claims t) (backward-at t) backward.Post
 backward-kept-requires t c κs =
-    let b = c .before .before .before .before .before .before .before .before in
+    let b = c .before .before .before .before .before .before .before .before .before in
     let e = b .before .before .before .before .before in
     let k = e .before in
     let s = k .before .before .before in
@@ -135,7 +151,7 @@ backward-element-copy-out-put t c = search needs
 
 backward-put-requires : (t : ℕ) → backward-lts.Need-put-requires (claims t) (backward-at t) backward.Post
 backward-put-requires t c κs =
-    let b = c .before .before .before .before .before .before .before .before .before .before .before in
+    let b = c .before .before .before .before .before .before .before .before .before .before .before .before in
     let e = b .before .before .before .before .before in
     let k = e .before in
     let s = k .before .before .before in
@@ -147,7 +163,7 @@ backward-either-requires t c κs = search needs
 
 backward-ending-requires-2 : (t : ℕ) → backward-lts.Need-ending-requires-2 (claims t) (backward-at t) backward.Post
 backward-ending-requires-2 t c κs =
-    let b = c .before .before .before .before .before .before .before .before .before .before .before .before .before .before .before in
+    let b = c .before .before .before .before .before .before .before .before .before .before .before .before .before .before .before .before in
     let s = b .before .before .before .before .before .before .before .before .before in
     (search needs, omega (arith, s .pre .1 .0 .whole .long))
 
@@ -158,12 +174,13 @@ backward-returns-3 : (t : ℕ) → backward-lts.Need-returns-3 (claims t) (backw
 backward-returns-3 t c =
     let p = c .before .before .before .before in
     let u = p .before .before .before in
-    let b = u .before .before .before .before .before .before .before .before .before in
+    let i = u .before .before .before .before .before in
+    let b = i .before .before .before .before .before in
     let e = b .before .before .before .before .before in
     let k = e .before in
     let s = k .before .before .before in
     let words = words-of (s .args .t .now) (λ i. k .slice-known .given i .fits) in (
-      level-next _ _ _ _ _ _ _ (s .pre .1 .0 .whole) words (s .pre .1 .1) (e .if1 .left) _ _ _ (b .backward .ensures .0) _ _ _
+      level-next _ _ _ _ _ _ _ (s .pre .1 .0 .whole) words (s .pre .1 .1) (e .if1 .left) _ _ _ (b .backward .ensures .0) _ _ _ _ (i .before .states-in2 .ensures)
           (c .ending2 .ensures) (u .kept .ensures .1) _ _ _ (p .put .ensures) (c .before .either .ensures),
       u .kept .ensures .0,
     )
@@ -172,15 +189,18 @@ pub +backward-spec : {M : Type 1} → statement M
 +backward-spec = close μ-backward λ t. backward-lts.spec (claims t)
     (backward-at t)
     backward.Post
-    (backward-mul-ending t)
-    (backward-element-copy-out-ending t)
+    (backward-mul-states-in t)
+    (backward-element-copy-out-states-in t)
+    (backward-states-in-requires t)
     (backward-ending-requires t)
     (backward-returns t)
     (backward-add-next t)
     (backward-sub-backward t)
     (backward-backward-requires t)
-    (backward-mul-from t)
-    (backward-element-copy-out-from t)
+    (backward-mul-states-in-2 t)
+    (backward-element-copy-out-states-in-2 t)
+    (backward-states-in-requires-2 t)
+    (backward-cast-if2 t)
     (backward-add-if2 t)
     (backward-mul-if2 t)
     (backward-element-copy-out-if2 t)

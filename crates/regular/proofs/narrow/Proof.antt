@@ -11,12 +11,12 @@ use Rattle.regular.proofs.narrow.Statement.{statement}
 use Rattle.regular.proofs.narrow.Tie as tie
 
 highest-requires : tie.Need-highest-requires
-highest-requires c κs = let s = c .before .before .before .before in tidy-lengths _ _ (s .pre .6)
+highest-requires c κs = let s = c .before .before .before .before in tidy-lengths _ _ (s .pre .5)
 
 forward-requires : tie.Need-forward-requires
 forward-requires c κs =
     let s = c .before .before .before .before .before .before .before .before in
-    (record { most = s .pre .0; whole = s .pre .1; kinds = s .pre .2; room = s .pre .3 }, forgotten-start, search needs, search needs, search needs, refl)
+    (record { most = s .pre .0; whole = s .pre .1; kinds = s .pre .2 }, forgotten-start, search needs, search needs, search needs, refl)
 
 returns : tie.Need-returns
 returns c =
@@ -25,8 +25,8 @@ returns c =
     let k = f .before .before .before .before .before in
     let s = k .before .before .before .before in
     let words = words-of (s .args .t .now) (λ i. k .slice-known2 .given i .fits) in
-    regular-none _ _ _ _ (s .pre .1) (s .pre .4) (s .pre .5) words (s .pre .6) _ _ _ _ (f .before .before .before .before .highest .ensures) (f .forward .ensures .0)
-    (e .before .before .accepting .ensures) (e .lengths .ensures) (c .before .if1 .taken) _ (c .nothing .ensures)
+    regular-none _ _ _ _ (s .pre .1) (s .pre .3) (s .pre .4) words (s .pre .5) _ _ _ _ (f .before .before .before .before .highest .ensures) (f .forward .ensures .0)
+    (search needs) (e .before .before .accepting .ensures) (e .lengths .ensures) (c .before .if1 .taken) _ (c .nothing .ensures)
 
 backward-requires : tie.Need-backward-requires
 backward-requires c κs =
@@ -36,10 +36,10 @@ backward-requires c κs =
     let k = f .before .before .before .before .before in
     let s = k .before .before .before .before in
     let words = words-of (s .args .t .now) (λ i. k .slice-known2 .given i .fits) in (
-      record { most = s .pre .0; whole = s .pre .1; kinds = s .pre .2; room = s .pre .3 },
-      going-all _ _ _ _ _ _ _ (s .pre .1) words (going _ _ _ _ (s .pre .1) (s .pre .4) (s .pre .5) words
-          (s .pre .6) _ _ _ _ (f .before .before .before .before .highest .ensures) (f .forward .ensures .0)
-          (e .before .before .accepting .ensures) (e .lengths .ensures) _ (h .highest2 .ensures)),
+      record { most = s .pre .0; whole = s .pre .1; kinds = s .pre .2 },
+      going-all _ _ _ _ _ _ _ (s .pre .1) words (going _ _ _ _ (s .pre .1) (s .pre .3) (s .pre .4) words
+          (s .pre .5) _ _ _ _ (f .before .before .before .before .highest .ensures) (f .forward .ensures .0)
+          (search needs) (e .before .before .accepting .ensures) (e .lengths .ensures) _ (h .highest2 .ensures)),
       record {
         size = refl {A = ℕ} {a = 7};
         small = omega arith;
@@ -56,8 +56,8 @@ shorten-requires c κs =
     let k = f .before .before .before .before .before in
     let s = k .before .before .before .before in
     let words = words-of (s .args .t .now) (λ i. k .slice-known2 .given i .fits) in
-    let go = going _ _ _ _ (s .pre .1) (s .pre .4) (s .pre .5) words (s .pre .6) _ _ _ _ (f .before .before .before .before .highest .ensures) (f .forward .ensures .0)
-    (e .before .before .accepting .ensures) (e .lengths .ensures) _ (h .highest2 .ensures) in
+    let go = going _ _ _ _ (s .pre .1) (s .pre .3) (s .pre .4) words (s .pre .5) _ _ _ _ (f .before .before .before .before .highest .ensures) (f .forward .ensures .0)
+    (search needs) (e .before .before .accepting .ensures) (e .lengths .ensures) _ (h .highest2 .ensures) in
     regular-ready _ _ _ _ _ _ _ (s .pre .1) words go _ _ _ (c .before .before .before .backward .ensures .0)
 
 returns-2 : tie.Need-returns-2
@@ -69,8 +69,8 @@ returns-2 c =
     let k = f .before .before .before .before .before in
     let s = k .before .before .before .before in
     let words = words-of (s .args .t .now) (λ i. k .slice-known2 .given i .fits) in
-    let go = going _ _ _ _ (s .pre .1) (s .pre .4) (s .pre .5) words (s .pre .6) _ _ _ _ (f .before .before .before .before .highest .ensures) (f .forward .ensures .0)
-    (e .before .before .accepting .ensures) (e .lengths .ensures) _ (h .highest2 .ensures) in
+    let go = going _ _ _ _ (s .pre .1) (s .pre .3) (s .pre .4) words (s .pre .5) _ _ _ _ (f .before .before .before .before .highest .ensures) (f .forward .ensures .0)
+    (search needs) (e .before .before .accepting .ensures) (e .lengths .ensures) _ (h .highest2 .ensures) in
     regular-left _ _ _ _ _ _ _ (s .pre .1) words go _ _ _ (b .backward .ensures .0) _ _ (c .before .before .before .shorten .ensures) _ (c .either .ensures)
 
 pub narrow-spec : {M : Type 1} → statement M

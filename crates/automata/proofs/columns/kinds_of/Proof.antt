@@ -35,7 +35,7 @@ returns : tie.Need-returns Inv-loop μ-loop
 returns c =
     let l = c .before .loop in
     let s = c .before .before .before .before in
-    (partly-end _ _ _ (s .pre .0) _ _ _ (omega arith) (l .inv .0), l .inv .1)
+    (partly-end _ _ _ (s .pre .0) _ _ _ (omega (arith, l .inv .1 .size, s .pre .2)) (omega arith) (l .inv .0), l .inv .1)
 
 pub kinds-of-spec : {M : Type 1} → statement M
 kinds-of-spec =

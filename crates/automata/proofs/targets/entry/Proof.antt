@@ -1,4 +1,5 @@
-use Rattle.automata.proofs.TargetLaws.{move-small, targets-at, added-none, added-all, added-kept}
+use Rattle.automata.proofs.MachineLaws.{moves-below}
+use Rattle.automata.proofs.TargetLaws.{targets-at, added-none, added-all, added-kept}
 use borrow.Author.Needs.{needs}
 use Rattle.automata.proofs.targets.entry.Statement.{statement}
 use Rattle.automata.proofs.targets.entry.Tie as tie
@@ -13,7 +14,7 @@ returns-3 c =
     let e = c .before .before in
     let s = e .before .before .before in (
       added-all _ _ _ _ _ _ _ (targets-at _ _ _ _ _ (s .pre .5) _ (s .pre .2) (e .if1 .left)) (search needs) (c .before .if2 .left)
-          (move-small _ _ (s .pre .1) _ (s .pre .2)) (c .if3 .taken) (search needs) (s .pre .4) (s .pre .3),
+          (λ a l. moves-below _ _ (s .pre .1) _ a (s .pre .2) l) (c .if3 .taken) (search needs) (s .pre .4) (s .pre .3),
       s .pre .5,
     )
 

@@ -44,7 +44,7 @@ returns-6 c =
     let e = c .before .before .before .before .before .before .before .states .ensures in
     let f = c .before .before .before .accepting .ensures in
     let z = sym (c .before .before .none-from .ensures) ∙ not-false _ (c .before .if5 .left) in
-    c .moves-below .ensures ∙ whole-by-moves _ _ _ _ e f (search needs) (search needs) (search needs) z
+    c .moves-known .ensures ∙ whole-by-moves _ _ _ _ e f (search needs) (search needs) (search needs) z
 
 pub whole-spec : {M : Type 1} → statement M
 whole-spec =
