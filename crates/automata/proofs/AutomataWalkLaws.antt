@@ -22,6 +22,7 @@ use Rattle.laws.proofs.WordLaws.{bool-ext}
 use Rattle.automata.specs.Machine.{stateCount, machine, Whole}
 use Rattle.automata.specs.Walk.{present, Held, Starts}
 use Rattle.automata.proofs.MachineLaws.{moves-byte, known-cases, automaton-whole}
+use Rattle.automata.proofs.SetLaws.{one-more}
 
 -- ---- values that may be missing
 
@@ -60,11 +61,7 @@ greatest-none bs = record { most = λ j h. absurd (omega arith); here = inl refl
 
 module _ (bs : List ℕ) (n top more : ℕ) (g : Greatest bs n top) (e : more ≡ (getD bs (5 + n) 0 + 1) % 256) where
   one-most : (new : ℕ) → top ≤ new → more ≤ new → (j : ℕ) → j < n + 1 → (getD bs (5 + j) 0 + 1) % 256 ≤ new
-  one-most new h l j m = go (eqb j n) refl
-    where
-      go : (t : Bool) → eqb j n ≡ t → (getD bs (5 + j) 0 + 1) % 256 ≤ new
-      go true z = subst (λ (i : ℕ). (getD bs (5 + i) 0 + 1) % 256 ≤ new) (sym (eqb-true j n z)) (subst (λ (v : ℕ). v ≤ new) e l)
-      go false z = let d = eqb-false j n z in let b = g .most j (omega arith) in omega arith
+  one-most new h l = one-more (λ j. (getD bs (5 + j) 0 + 1) % 256 ≤ new) n (λ j m. let b = g .most j m in omega arith) (subst (λ (v : ℕ). v ≤ new) e l)
 
   pub greatest-new : top < more → Greatest bs (n + 1) more
   greatest-new h = record { most = one-most more (omega arith) (omega arith); here = inr (n, omega arith, e) }

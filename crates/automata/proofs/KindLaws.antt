@@ -27,7 +27,7 @@ use Rattle.automata.specs.Walk.{Held, Starts}
 use Rattle.automata.specs.Kinds.{Alike, Total, OneKind, Lacks, Room, Kinds, lackingOf, Spread, Noted, Around, Partly, Blank, AllHeld, AllKinds, Firsts, AllOf}
 use Rattle.automata.specs.StateSets.{Successors, Steps}
 use Rattle.automata.proofs.MachineLaws.{moves-below, mark-one, mark-move}
-use Rattle.automata.proofs.SetLaws.{no-bit, Walked, walked-step}
+use Rattle.automata.proofs.SetLaws.{no-bit, one-more, Walked, walked-step}
 use Rattle.automata.proofs.AutomataWalkLaws.{automata-count, lent, rest-lent}
 
 -- ---- one kind
@@ -45,13 +45,7 @@ module _ (D : Automaton) where
   alike-upto n m a b e h = subst (λ (i : ℕ). Alike D i a b) e h
 
   pub alike-next : (q a b : ℕ) → Alike D q a b → move D q a ≡ move D q b → Alike D (q + 1) a b
-  alike-next q a b h e = record {
-    each = λ p l. go p l (eqb p q) refl;
-  }
-    where
-      go : (p : ℕ) → p < q + 1 → (t : Bool) → eqb p q ≡ t → move D p a ≡ move D p b
-      go p l true z = rw (eqb-true p q z) e
-      go p l false z = let y = eqb-false p q z in h .each p (omega arith)
+  alike-next q a b h e = record { each = one-more (λ p. move D p a ≡ move D p b) q (h .each) e }
 
   pub total-none : (a : ℕ) → Total D 0 a
   total-none a = record { each = λ p h. absurd (omega arith) }
@@ -60,13 +54,7 @@ module _ (D : Automaton) where
   total-upto n m a e h = subst (λ (i : ℕ). Total D i a) e h
 
   pub total-next : (q a m : ℕ) → Total D q a → m ≡ markOf (move D q a) → m ≢ 63 → Total D (q + 1) a
-  total-next q a m h e d = record {
-    each = λ p l. go p l (eqb p q) refl;
-  }
-    where
-      go : (p : ℕ) → p < q + 1 → (t : Bool) → eqb p q ≡ t → (t : ℕ) × (move D p a ≡ some t)
-      go p l true z = rw (eqb-true p q z) (mark-move (move D q a) (λ f. d (e ∙ f)))
-      go p l false z = let y = eqb-false p q z in h .each p (omega arith)
+  total-next q a m h e d = record { each = one-more (λ p. (t : ℕ) × (move D p a ≡ some t)) q (h .each) (mark-move (move D q a) (λ f. d (e ∙ f))) }
 
   pub total-alike : (q a b : ℕ) → Alike D q a b → Total D q a → Total D q b
   total-alike q a b s h = record { each = λ p l. let t = h .each p l in (t .0, sym (s .each p l) ∙ t .1) }
@@ -147,11 +135,7 @@ module _ (D : Automaton) (q k : ℕ) (most : k ≤ 64) where
 
   module _ (T : List ℕ) (at a : ℕ) (g : Partly D q k T at a) where
     more : (U : List ℕ) → ((b : ℕ) → b < a → 0 < word U (at + b)) → 0 < word U (at + a) → (b : ℕ) → b < a + 1 → 0 < word U (at + b)
-    more U f h b l = go (eqb b a) refl
-      where
-        go : (t : Bool) → eqb b a ≡ t → 0 < word U (at + b)
-        go true z = rw (eqb-true b a z) h
-        go false z = let y = eqb-false b a z in f b (omega arith)
+    more U f h = one-more (λ b. 0 < word U (at + b)) a f h
 
     pub partly-known : word T (at + a) ≢ 0 → Partly D q k T at (a + 1) × Around T at T
     partly-known z = (record { each = g .each; total = g .total; done = more T (g .done) (omega arith) }, around-none T at)

@@ -2,11 +2,11 @@
 use mathlib.Core.Path.{_≡_, refl, sym, ap, subst, _∙_}
 use mathlib.Core.Logic.{_⊎_, inl, inr, ⊎-elim}
 use mathlib.Core.Bool.{Bool, true, false, not, false≢true}
-use Prim.Native.Nat.{ℕ, _-_, _^_, _≤_, _<_}
+use Prim.Native.Nat.{ℕ, _+_, _-_, _^_, _≤_, _<_}
 use native.Mathlib.Omega.{arith}
 use lib.Bits.{bitAnd, bitOr}
 use lib.Dec.{eqb}
-use borrow.Author.Tests.{eqb-true}
+use borrow.Author.Tests.{eqb-true, eqb-false}
 use Rattle.model.specs.Words.{bit}
 use mathlib.Core.Option.{Option}
 use Rattle.model.specs.Constraints.{Automaton, move, holds}
@@ -21,6 +21,14 @@ use Rattle.automata.proofs.MachineLaws.{mark-holds}
 -- a word that is 0 has no bit
 pub no-bit : (w i : ℕ) → w ≡ 0 → bit w i ≡ true → ⊥
 no-bit w i e b = false≢true (sym (zero-bit i) ∙ ap (λ (v : ℕ). bit v i) (sym e) ∙ b)
+
+-- what holds below q and at q, holds below one more
+pub one-more : (F : ℕ → Type 0) (q : ℕ) → ((p : ℕ) → p < q → F p) → F q → (p : ℕ) → p < q + 1 → F p
+one-more F q below here p l = go (eqb p q) refl
+  where
+    go : (t : Bool) → eqb p q ≡ t → F p
+    go true z = subst F (sym (eqb-true p q z)) here
+    go false z = let d = eqb-false p q z in below p (omega arith)
 
 module _ (E : ℕ → ℕ → Type 0) where
   -- nothing is given at all

@@ -24,7 +24,7 @@ use Rattle.automata.specs.Machine.{stateCount, machine, markOf, Whole}
 use Rattle.automata.specs.StateSets.{Gathered, Moves, Enters, Successors, By, Added, Steps, Targets, Most, Forgotten}
 use Rattle.automata.specs.Kinds.{Lacks}
 use Rattle.automata.proofs.MachineLaws.{Below, move-known, mark-small, mark-holds, mark-some, holds-state}
-use Rattle.automata.proofs.SetLaws.{no-bit, Walked, walked-step, walked-skip, walked-one, ByState, ByEntering}
+use Rattle.automata.proofs.SetLaws.{no-bit, one-more, Walked, walked-step, walked-skip, walked-one, ByState, ByEntering}
 
 -- ---- words without others
 
@@ -65,11 +65,7 @@ targets-unasked D q k r tos g = record {
 }
 
 pub forgotten-turn : (tos : List ℕ) (i : ℕ) → i < length tos → ((p : ℕ) → p < i → word tos p ≡ 0) → (p : ℕ) → p < i + 1 → word (set tos i 0) p ≡ 0
-forgotten-turn tos i h f p l = go (eqb p i) refl
-  where
-    go : (t : Bool) → eqb p i ≡ t → word (set tos i 0) p ≡ 0
-    go true z = rw (eqb-true p i z) (getD-set-same tos i 0 0 h)
-    go false z = let y = eqb-false p i z in getD-set-other tos i p 0 0 y ∙ f p (omega arith)
+forgotten-turn tos i h f = one-more (λ p. word (set tos i 0) p ≡ 0) i (λ p l. getD-set-other tos i p 0 0 (omega arith) ∙ f p l) (getD-set-same tos i 0 0 h)
 
 -- ---- forwards, where all is found
 
