@@ -6,7 +6,7 @@ import sys
 
 import counted
 
-KINDS = [(0, "Trim"), (1, "Eq"), (2, "Neq"), (3, "Rev"), (4, "Cat"), (5, "Sub"), (6, "Len"), (7, "Regular"), (8, "Duration")]
+KINDS = [(0, "Trim"), (1, "Eq"), (2, "Neq"), (3, "Rev"), (4, "Cat"), (5, "Sub"), (6, "Len"), (7, "Regular")]
 NOTHING = 255
 TIMES = 100
 

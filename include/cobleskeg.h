@@ -17,8 +17,7 @@
  *    5  file    its automata are not exactly as many as it counts, each with 1 to 32 states, its accepting ones among them, and every next state one of them, or
  *               255 for no move
  *    6  file    a symbol word of its table has a bit at k or above
- *    7  file    a constraint has a kind outside 1 to 8, an argument that names nothing, or an unused one that is not 0; or it is a duration, and its version
- *               is 0 or k is under 11
+ *    7  file    a constraint has a kind outside 1 to 7, an argument that names nothing, or an unused one that is not 0
  *    8  file    a constraint names one string twice
  *    9  table   it has not 64 s + t words
  *   10  table   a symbol word has a bit at k or above

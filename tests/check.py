@@ -50,7 +50,6 @@ STATES = (
 LINES = [
     ("^parts x 1 of a", f"no statement begins with 'parts' (they are {WORDS})"),
     ('^"part" x 1 of a', f'no statement begins with "part" (they are {WORDS})'),
-    ("^duration x 3", f"no statement begins with 'duration' (they are {WORDS})"),  # a statement of problems alone
     ("^alphabet d", "there is an alphabet already: expected only one"),
     # names
     ("part^", f"expected the name of a part, {END}"),

@@ -1,13 +1,12 @@
-# A `none` that says nothing: the warnings of `tools/problem.py`, with their lines. Domains, durations and names by themselves; what counts as a template; and
-# templates that have no name even alone, by the program. Expected lines and words stand here by hand.
+# A `none` that says nothing: the warnings of `tools/problem.py`, with their lines. Domains and names by themselves; what counts as a template; and templates
+# that have no name even alone, by the program. Expected lines and words stand here by hand.
 #     python3 tests/doubtful.py       after `rt check clash rule`
 import sys
 import tempfile
-from itertools import combinations, product
 from pathlib import Path
 
-from examples import EXAMPLES, FOLDER, PROGRAMS, ROOT, is_duration
-from solve import FOUND, NONE, SPENT, run, stand_in
+from examples import EXAMPLES, FOLDER, PROGRAMS, ROOT
+from solve import NONE, run, stand_in
 
 sys.path.insert(0, str(ROOT / "tools"))
 import doubts
@@ -63,64 +62,15 @@ DOUBTS = [
     ('alphabet a..c .\nstring x\nrule d = "a..c"|a...c|a. .c\nregular x d', []),
 ]
 
-# (the domain of a string, a version, whether one of its texts is a duration of it); the letters are digits and the point
-DURATIONS = [
-    ("", 1, True),
-    ("", 255, True),
-    ("length 20..63", 1, True),
-    ("length 20..63", 2, True),
-    ("length 0, 21..63", 1, False),
-    ("length 0, 21..63", 2, False),
-    ("length 0, 21..63", 3, True),
-    ("length 63", 255, True),
-    ("length 0", 3, False),
-    ("length 1..63 of .", 2, False),
-    ("length 1..63 of .", 3, False),
-    ("length 1..63 of .\n  at 1 9", 2, True),
-    ("length 2..63 of .\n  at 1 9", 3, False),
-    ("length 2..63 of .\n  at 1, 3 9", 2, False),
-    ("length 2..63 of .\n  at 1, 3 9", 3, True),
-    ("length 4..63 of .\n  at 1, 3 9", 3, False),
-    ('= "6"', 1, True),
-    ('= "6"', 3, True),
-    ('= "6.06"', 2, False),
-    ('= "6.06"', 3, True),
-    ('= ".06"', 3, False),
-    ('= "6."', 3, False),
-    ('= "6.0.6"', 3, False),
-    ("length 3\n  at 2 .", 2, False),
-    ("length 3\n  at 2 .", 3, True),
-    ("length 63\n  at 62 .", 3, True),
-    ("length 63\n  at 63 .", 3, False),
-    ("length none", 3, False),
-]
-
-
-def timed(domain, version):
-    """A text with a duration in its last line."""
-    return f"alphabet 0..9 .\nstring x {domain}\nduration x {version}"
-
-
-def never(domain, version, possible):
-    """The doubts of such a text."""
-    lacking = "of 1 to 20 digits" if version < 3 else "of digits, nor of digits, a point and digits"
-    nothing = [(2, "string 'x' stands for nothing: it has no length")] if domain == "length none" else []
-    line = timed(domain, version).count("\n") + 1
-    return nothing + ([] if possible else [(line, f"string 'x' is never a duration of version {version}: it has no text {lacking}")])
-
-
-DOUBTS += [(timed(domain, version), never(domain, version, possible)) for domain, version, possible in DURATIONS]
-ENDS = {timed(domain, version): FOUND if possible else NONE for domain, version, possible in DURATIONS}  # the status of `solve`
-
 A, B = "cat a1 a2 name\n", "cat b1 b2 name\n"
 
 
-def text(constraints, alphabet="a..c -", **domains):
+def text(constraints, **domains):
     """A text with what its constraints name, the strings in the order of their names and without a domain if none is given, and then the number `n`. The
     alphabet is its first line."""
-    named = {name for line in constraints.splitlines() for name in line.split()[1:] if not name.isdigit()}
+    named = {name for line in constraints.splitlines() for name in line.split()[1:]}
     strings = "".join(f"string {name} {domains.get(name, '')}\n" for name in sorted(named - {"n", "rule"}))
-    return f"alphabet {alphabet}\n" + strings + ("number n\n" if "n" in named else "") + constraints
+    return "alphabet a..c -\n" + strings + ("number n\n" if "n" in named else "") + constraints
 
 
 # (constraints, the templates that they make)
@@ -160,11 +110,6 @@ ALONE = [
         (0, "a1 a2 m", "", ["cat a1 a2 m"]),
         (1, "b1 b2 n1", "n", ["cat b1 b2 n1", "len n1 n"]),
     ),
-    (
-        text(A + B + "duration a1 2\nduration b2 255\nduration name 3\n", "0..9 ."),
-        (0, "a1 a2 name", "", ["cat a1 a2 name", "duration a1 2", "duration name 3"]),
-        (1, "b1 b2 name", "", ["cat b1 b2 name", "duration b2 255", "duration name 3"]),
-    ),
 ]
 
 ONE, FOUR, RULE = "length 1 of a", "length 4", "automaton rule\nstate q b to r, other to q\naccepting r any to r\n"
@@ -187,11 +132,6 @@ SAID = [
         text(A + B + "regular name rule\n", a1=ONE, a2=ONE, b1="length 1 of b", b2=ONE) + "rule rule = (a|b|c|-)*b(a|b|c|-)*\n",
         [(7, f"note: no name of the template a1 a2 = name meets line 9, {CLASH}")],
     ),
-    # a name of A has a point in it, as no whole duration has
-    (
-        text(A + B + "duration name 2\n", "0..9 .", a1="length 1 of 0..9", a2='= ".5"', b1="length 1 of 0..9", b2="length 1 of 0..9"),
-        [(7, f"note: no name of the template a1 a2 = name meets line 9, {CLASH}")],
-    ),
     # the rule is said of a part, so that it can only be A's
     (text(A + B + "regular a1 rule\n", a1=ONE, a2=ONE) + RULE, [(7, A_HAS_NONE)]),
     # what is said of the name and a part of A is A's too; the name, two letters long, is not the part backwards
@@ -209,7 +149,7 @@ def read(written):
 
 def shown(problem):
     """The strings, the numbers and the constraints of a problem."""
-    behind = [line for line in wording.text(problem).splitlines() if line.split()[0] in textform.WORDS]
+    behind = [line for line in wording.text(problem).splitlines() if line.split()[0] in ("eq", "neq", "rev", "cat", "sub", "len", "regular")]
     return " ".join(problem.strings), " ".join(problem.numbers), behind
 
 
@@ -227,19 +167,6 @@ def by_hand():
     return wrong
 
 
-def small_rows():
-    """Whether a row holds a duration, against all texts of it: rows of up to three places, each with some of a digit, the point and another letter."""
-    letters, wrong = {1 << 9: "9", 1 << 10: ".", 1 << 11: "a"}, []
-    some = [sum(chosen) for count in range(4) for chosen in combinations(letters, count)]
-    for lengths, *words in product(range(16), some, some, some):
-        places = [[letter for word, letter in letters.items() if place & word] for place in words]
-        texts = ["".join(chosen) for length in range(4) if lengths >> length & 1 for chosen in product(*places[:length])]
-        for version in (2, 3):
-            if doubts.holds_duration([lengths, *words] + [0] * 60, version) != any(is_duration(written, version) for written in texts):
-                wrong.append(f"lengths {lengths:b} and letters {places}, version {version}: of {texts}")
-    return wrong
-
-
 def by_the_tool(folder):
     """`pack` and `solve` warn of the doubts and end as they would without; `solve` speaks of templates too."""
     path, wrong = folder / "asked.text", []
@@ -248,8 +175,7 @@ def by_the_tool(folder):
         warned = "".join(f"{path}:{line}: warning: {message}\n" for line, message in expected)
         for command in (["pack", path, "-o", folder / "made.problem"], ["solve", path]):
             code, output, errors = run(*command)
-            solved = (output.split(":")[0], code) in (("none", NONE), ("found", FOUND), ("spent", SPENT)) and ENDS.get(written, code) == code
-            right = errors == warned and (code == 0 if command[0] == "pack" else solved)
+            right = errors == warned and (code == 0 if command[0] == "pack" else output.split(":")[0] == ["none", "found", "spent"][code])
             wrong += [] if right else [f"{command[0]} {written!r}: {code}, {output}{errors}"]
     for written, expected in SAID:
         path.write_text(written)
@@ -289,7 +215,7 @@ def main():
     wrong = [f"target/bin/{path.name} is not there: run `rt check {path.name}` first" for path in PROGRAMS if not path.is_file()]
     if not wrong:
         with tempfile.TemporaryDirectory() as folder:
-            wrong = by_hand() + small_rows() + by_the_tool(Path(folder)) + calls(Path(folder)) + examples()
+            wrong = by_hand() + by_the_tool(Path(folder)) + calls(Path(folder)) + examples()
     for line in wrong:
         print("doubtful: " + line)
     if not wrong:

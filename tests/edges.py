@@ -141,8 +141,7 @@ EDGES = [
     ("the automata are looked at before the table", file(s=1, d=1, words={1: 16}, machines=b"\0"), 64, 5, 5, 448),
     ("the table is looked at before the records", file(s=1, words={1: 16}, records=[(0, 0, 0, 0)]), 64, 6, 6, 448),
     ("kind 0", file(s=2, records=[(0, 0, 0, 0)]), 128, 7, 7, 896),
-    ("kind 9", file(k=11, s=2, records=[(9, 0, 1, 0)]), 128, 7, 7, 896),
-    ("kind 255", file(k=11, s=2, records=[(255, 0, 1, 0)]), 128, 7, 7, 896),
+    ("kind 8", file(s=2, records=[(8, 0, 1, 0)]), 128, 7, 7, 896),
     ("a second string that is not there", file(s=2, records=[(1, 0, 2, 0)]), 128, 7, 7, 896),
     ("a third string that is not there", file(s=2, records=[(4, 0, 1, 2)]), 128, 7, 7, 896),
     ("a number that is not there", file(s=1, t=1, records=[(6, 0, 1, 0)]), 65, 7, 7, 455),
@@ -159,22 +158,6 @@ EDGES = [
     ("a lent table a word long", file(t=2, words={0: 1, 1: 2}), 3, (4, 0, 2, 0, 0), 9, 21),
     ("a lent table that fits", file(t=2, words={0: 1, 1: 2}), 2, (4, 0, 2, 0, 0), "done", 3),
     ("the largest file, every bit there", largest(), 1040, (64, 16, 16, 8, 64), "done", 2**64 - 1040),
-]
-# by ticket 6: the version is 1 to 255, and the digits and the point take 11 symbols
-EDGES += [(f"Duration of version {v}", file(k=11, s=1, records=[(8, 0, v, 0)]), 64, (11, 1, 0, 0, 1), "done", 0) for v in (1, 2, 3, 255)]
-EDGES += [
-    ("Duration of version 0", file(k=11, s=1, records=[(8, 0, 0, 0)]), 64, 7, 7, 448),
-    ("Duration over 10 symbols", file(k=10, s=1, records=[(8, 0, 3, 0)]), 64, 7, 7, 448),
-    ("Duration over 4 symbols, of version 1", file(s=1, records=[(8, 0, 1, 0)]), 64, 7, 7, 448),
-    ("Duration over 64 symbols", file(k=64, s=1, records=[(8, 0, 3, 0)]), 64, (64, 1, 0, 0, 1), "done", 0),
-    ("Duration of a string that is not there", file(k=11, s=1, records=[(8, 1, 3, 0)]), 64, 7, 7, 448),
-    ("Duration where there is no string", file(k=11, t=1, records=[(8, 0, 3, 0)]), 1, 7, 7, 7),
-    ("Duration with a third argument", file(k=11, s=1, records=[(8, 0, 3, 1)]), 64, 7, 7, 448),
-    ("the version of a duration is no string", file(k=11, s=2, records=[(8, 1, 1, 0)]), 128, (11, 2, 0, 0, 1), "done", 0),
-    ("64 durations on 16 strings", file(k=64, s=16, records=[(8, i % 16, i + 1, 0) for i in range(64)]), 1024, (64, 16, 0, 0, 64), "done", 0),
-    ("the table is looked at before a duration", file(k=11, s=1, words={1: 2**11}, records=[(8, 0, 0, 0)]), 64, 6, 6, 448),
-    ("one string twice, and then a duration of version 0", file(k=11, s=2, records=[(1, 0, 0, 0), (8, 0, 0, 0)]), 128, 7, 7, 896),
-    ("a duration, and then one string twice", file(k=11, s=2, records=[(8, 0, 3, 0), (1, 0, 0, 0)]), 128, 8, 8, 896),
 ]
 # the word of the symbols 0 to k - 1, for each k: all of them are there in the last place of a string, and one symbol more is too many
 EDGES += [(f"k {k} with every symbol", file(k=k, s=1, words={63: 2**k - 1}), 64, (k, 1, 0, 0, 0), "done", 2**k - 1) for k in range(1, 65)]
@@ -277,68 +260,6 @@ STEPS += [
     (f"the lengths 0 to {i}", over(4, 1, 0, []), 0, row(range(64), *[{1, 3}] * i), f"struck {63 - i}", row(range(i + 1), *[{1, 3}] * i)) for i in range(64)
 ]
 
-# ---- by ticket 6: durations, each on the row of one string first
-
-
-def timed(version, k=11):
-    """A file that holds its one string to the spelling of a duration; its own table is empty."""
-    return over(k, 1, 0, [(8, 0, version, 0)])
-
-
-def spelled(text):
-    """The row of this text alone, of digits and points."""
-    return string(*(10 if letter == "." else int(letter) for letter in text))
-
-
-POINT = 10
-# (text, whether it is a duration in versions 1 and 2, and whether it is from 3 on)
-TEXTS = [
-    ("", False, False),
-    ("7", True, True),
-    ("9" * 20, True, True),
-    ("0" * 21, False, True),
-    ("5" * 63, False, True),
-    ("1.", False, False),
-    (".1", False, False),
-    ("1.1", False, True),
-    ("1.1.1", False, False),
-    (".", False, False),
-    ("1..1", False, False),
-    ("0" * 31 + "." + "9" * 31, False, True),
-    ("9" * 61 + ".0", False, True),
-    ("9" * 62 + ".", False, False),
-]
-STEPS += [
-    (f"{text!r} in version {v}", timed(v), 0, spelled(text), *(("struck 0", None) if fits else (f"struck {len(text) + 1}", NOTHING)))
-    for text, whole, parted in TEXTS
-    for v, fits in ((1, whole), (2, whole), (3, parted), (255, parted))
-]
-DIGIT, EITHER = range(10), range(11)
-ANY_DURATION = row(range(1, 64), DIGIT, *[EITHER] * 61, DIGIT)
-# places 1 to 3 may be digits and place 4 is no digit: the point there, or a string that ends before it
-FOUR = ({1}, {2, POINT}, {3}, {POINT}, {4})
-STEPS += [
-    # the lengths 0 and 21 to 63, the point at 20 places, and 43 places of 11 symbols
-    ("any string in version 2", timed(2), 0, row(range(64), *[EITHER] * 63), "struck 537", row(range(1, 21), *[DIGIT] * 20)),
-    # the length 0, and the point first and last
-    ("any string in version 3", timed(3), 0, row(range(64), *[EITHER] * 63), "struck 3", ANY_DURATION),
-    # the length 0, 54 symbols first and last, and 53 at 61 places
-    ("any string of 64 symbols in version 3", timed(3, k=64), 0, row(range(64), *[range(64)] * 63), "struck 3342", ANY_DURATION),
-    ("the lengths 20 and 21 in version 1", timed(1), 0, row({20, 21}, *[{0}] * 21), "struck 2", row({20}, *[{0}] * 20)),
-    ("a place without a digit is the point, and the next one the end", timed(3), 0, row(range(1, 6), {1}, {2}, {POINT}, {3}, {POINT}), "struck 3",
-     row({1, 2, 4}, {1}, {2}, {POINT}, {3})),
-    ("a point before the place without a digit, by a string that ends there", timed(3), 0, row({3, 5}, *FOUR), "struck 0", None),
-    ("and without such a string", timed(3), 0, row({5}, *FOUR), "struck 1", row({5}, {1}, {2}, {3}, {POINT}, {4})),
-    ("a point at the last place", timed(3), 0, row({2}, {1}, {2, POINT}), "struck 1", spelled("12")),
-    ("a point at the first place", timed(3), 0, row({2}, {1, POINT}, {2}), "struck 1", spelled("12")),
-    ("two places without a digit", timed(3), 0, row({1, 3}, {1}, {POINT}, {POINT}), "struck 3", spelled("1")),
-    ("no digit at the first place", timed(3), 0, row({1, 2, 3}, {POINT}, {1}, {2}), "struck 6", NOTHING),
-    ("symbols past the longest string in version 3", timed(3), 0, row({1}, {1}, {POINT}, {2}), "struck 2", spelled("1")),
-    ("symbol 11 is neither", timed(3, k=12), 0, row({3}, {1}, {2, 11}, {3, 11}), "struck 2", spelled("123")),
-    ("no other variable", over(11, 2, 1, [(8, 1, 3, 0)]), 0, table([row({0}, {POINT}), spelled("1.")], [{1}]), "struck 3",
-     table([row({0}, {POINT}), NOTHING], [{1}])),
-]
-
 # ---- Settle: (what is tried, file, lent table, rounds and whether every variable has a value, table afterwards; None where it is untouched)
 
 TWO_LENS = over(4, 2, 1, [EQ, (6, 1, 0, 0)])
@@ -360,10 +281,6 @@ SETTLES = [
     ("a string of 63 places", over(1, 1, 0, []), FULL63, "rounds 1 true", None),
     ("symbols in turn by gaps", ruled(TURNS), FREE3, "rounds 2 true", TURNED3),
     ("one state without moves", ruled(LONE), row({1}, {0, 1}), "rounds 2 false", NOTHING),
-    ("a duration of version 2", timed(2), row({1, 3}, {1}, {POINT}, {2}), "rounds 2 true", spelled("1")),
-    ("a duration of version 3", timed(3), row({1, 3}, {1}, {POINT}, {2}), "rounds 1 true", None),
-    # the greatest version strikes nothing that version 3 has left, and version 1 leaves no point
-    ("durations of three versions", over(11, 1, 0, [(8, 0, v, 0) for v in (3, 255, 1)]), row({0, 3}, *[EITHER] * 3), "rounds 2 true", row({3}, *[DIGIT] * 3)),
     ("a lent table a word short", PLAIN, MARKS[1:], "refused 9", None),
     ("a lent table a word long", PLAIN, MARKS + [MARK], "refused 9", None),
     ("the size is looked at before the symbols", PLAIN, [16] * 66, "refused 9", None),
@@ -422,7 +339,6 @@ INDEXES = [
     ("P14", P14, 8, "done", INDEX14),
     ("each kind of constraint", KINDS, 10, "done", INDEX_KINDS),
     ("no constraint at all", over(4, 2, 1, []), 6, "done", [1, 0, 2, 0, 0, 0]),
-    ("the version of a duration is no variable", over(11, 2, 2, [(8, 1, 1, 0)]), 8, "done", pairs({1}, {0, 2}, (), ())),
     ("numbers alone", over(4, 0, 2, []), 4, "done", [0, 0, 0, 0]),
     ("step 63 is a trimming", LENS63, 6, "done", INDEX63),
     ("step 64 is a trimming", EQS64, 4, "done", INDEX_EQS),
@@ -461,9 +377,6 @@ QUEUES = [
     ("a string with no length", over(4, 1, 0, []), [1, 0], row((), {1}), "steps 1 false", NOTHING),
     # Regular strikes, and does not join itself; the trimming waits already
     ("P13: a step doesn't make itself join", over(2, 1, 0, [(7, 0, 0, 0)], [PARITY]), [3, 0], row({1, 2}, {0}, {0, 1}), "steps 2 true", string(0, 0)),
-    # Duration strikes while the trimming waits; where it takes all, so does it
-    ("a duration of version 2", timed(2), [3, 0], row({1, 3}, {1}, {POINT}, {2}), "steps 2 true", spelled("1")),
-    ("no duration", timed(3), [3, 0], spelled("1.1.1"), "steps 2 false", NOTHING),
     ("P2's rows: both empty", over(4, 2, 0, [EQ]), [3, 0, 5, 0], table([P2X, P2Y]), "steps 3 false", table([NOTHING, NOTHING])),
     # 0 Len leaves X the length 2; 1 Eq empties X and Y, 0 joins behind 2 and 3; 0 takes the number, 1 and 2 join
     ("it goes on after P2's rows are empty", over(4, 2, 1, [LEN, EQ]), [7, 0, 10, 0, 1, 0], table([P2X, P2Y], [{2}]), "steps 7 false",
@@ -583,18 +496,6 @@ SEARCHES = [
     ("symbols in turn by gaps, a node short", problem(2, [FREE3], records=[(7, 0, 0, 0)], machines=[TURNS]), 1, 192, 64, "spent 1", None),
     ("no symbol by which state 0 moves", problem(2, [row({1, 2}, {0}, {1})], records=[(7, 0, 0, 0)], machines=[TURNS]), 1, 192, 64, "none 1", None),
     ("32 states with gaps", problem(2, [row({30, 31}, *[{0, 1}] * 31)], records=[(7, 0, 0, 0)], machines=[ZEROS31]), 1, 192, 64, "found 1", string(*[0] * 31)),
-]
-
-# A duration of each version that are to be one text: 1 may be one, 1.2 may not.
-ONE_TEXT = [(8, 0, 3, 0), (8, 1, 2, 0), EQ]
-SEARCHES += [
-    # 1, 11, 1.1 and 111: the shortest comes first, and of three symbols the digit before the point
-    ("durations of the digit 1", problem(11, [row(range(4), *[{1, POINT}] * 3)], records=[(8, 0, 3, 0)]), 2, 192, 64, "found 2", spelled("1")),
-    ("durations of three symbols", problem(11, [row({3}, *[{1, POINT}] * 3)], records=[(8, 0, 3, 0)]), 2, 192, 64, "found 2", spelled("111")),
-    ("durations of three symbols, a node short", problem(11, [row({3}, *[{1, POINT}] * 3)], records=[(8, 0, 3, 0)]), 1, 192, 64, "spent 1", None),
-    ("one text of two versions", problem(11, [row({1, 3}, {1}, {POINT}, {2}), row({1, 3}, {1}, {2, POINT}, {2})], records=ONE_TEXT), 1, 384, 128, "found 1",
-     table([spelled("1")] * 2)),
-    ("no text of two versions", problem(11, [row({3}, {1}, {POINT}, {2}), row({3}, {1}, {2, POINT}, {2})], records=ONE_TEXT), 1, 384, 128, "none 1", None),
 ]
 
 # ---- refusals 1 to 8 come first: the lent table, the room and the index have the wrong size for each of these files, and there is no such step

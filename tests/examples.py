@@ -1,10 +1,8 @@
 # The examples: each is a text, the problem file it is packed into, and the lines that the program prints for it; or a template set. Checked are the packing, the
 # answer of the program and of the second solver, the round trip through `show`, that a solution meets every constraint of its text, what the texts say of changes
-# to them, and the verdicts on the sets; also the examples of docs/TEXT.md, and the parts of docs/GUIDE.md for durations. How a search ends and at which node stands
-# here by hand, as each text explains it.
+# to them, and the verdicts on the sets; also the examples of docs/TEXT.md. How a search ends and at which node stands here by hand, as each text explains it.
 #     python3 tests/examples.py            after `rt check clash rule`; it builds the second solver with cargo
 #     python3 tests/examples.py --write    lays out the problem files, not the answers
-import re
 import subprocess
 import sys
 import textwrap
@@ -39,11 +37,8 @@ EXAMPLES = {
     "injective": ("none 1", {}),
     "suffix": ("found 8", {"name": "aaaa-000", "signer": "aaaa", "counter": "-000", "tag": "", "place": 9}),
     "dates": ("found 5", {"name": "aaaa-1231", "signer": "aaaa", "date": "1231", "take": "1231"}),
-    "durations": ("found 7", {"name": "000-0.1", "seconds": "0", "take": ".1", "exact": "0.1"}),
 }
 CUT = {"broken": 1024}  # bytes of the packed file that the problem file has
-# texts that are durations of version 2 or 3, and texts that are none
-SPELLED = ["6", "06", "6.006", "0.0", "6.", ".6", "6..6", "6.0.6", "-6", "6-", "12345678901234567890", "1234567890.123456789"]
 # name of a set: for each question that clashes, the two choices of parts
 SETS = {
     "lessons": {("video", "plain"): ["aa / aa -hd- 000 .ts", "aa / aa-hd - 000 .ts"]},
@@ -90,10 +85,6 @@ def part_at(x, y, n):
     return 1 <= n <= len(x) + 1 and x[n - 1 : n - 1 + len(y)] == y
 
 
-def is_duration(text, version):
-    return re.fullmatch("[0-9]{1,20}" if version < 3 else r"[0-9]+(\.[0-9]+)?", text) is not None
-
-
 def met(problem, solution):
     """Whether each value is of its domain and each constraint is met."""
     for name, row in problem.strings.items():
@@ -110,12 +101,11 @@ def met(problem, solution):
         "sub": part_at,
         "len": lambda x, n: len(x) == n,
         "regular": lambda x, automaton: accepts(problem, automaton, x),
-        "duration": is_duration,
     }
-    values = solution | problem.automata | {name: version for version, name in enumerate(packing.VERSIONS)}
-    for constraint in problem.constraints:
-        word = packing.KINDS[constraint[0] - 1][0]
-        if not relations[word](*[values[name] for name in problem.names(constraint)]):
+    for kind, positions in problem.constraints:
+        word, nouns = packing.KINDS[kind - 1]
+        named = [list(problem.named(noun))[position] for noun, position in zip(nouns, positions)]
+        if not relations[word](*[problem.automata[name] if noun == "automaton" else solution[name] for noun, name in zip(nouns, named)]):
             return False
     return True
 
@@ -211,22 +201,10 @@ def with_sinks(text):
     return "\n".join(lines)
 
 
-def guide_parts():
-    """The lines of docs/GUIDE.md for durations in a set."""
-    return next(block for block in blocks_of((ROOT / "docs" / "GUIDE.md").read_text()) if block.startswith("part seconds "))
-
-
-def by_moves(text):
-    """The text of durations.text with automata in the place of its durations: 21 states that count digits, and those of docs/GUIDE.md."""
-    counted = "automaton counted\nstate d0 0..9 to d1\n" + "".join(f"accepting d{i} 0..9 to d{i + 1}\n" for i in range(1, 20)) + "accepting d20\n"
-    pointed = guide_parts()[guide_parts().index("automaton pointed") :]
-    return text.replace("duration seconds 2", "regular seconds counted").replace("duration exact 3", "regular exact pointed") + f"\n{counted}{pointed}"
-
-
 def changed_texts():
     """What the other texts say of changes to them, in the same form."""
     rule = "\n".join(statements("rule")[:-1])
-    counter, budget, suffix, dates, durations = ("\n".join(statements(name)) for name in ("counter", "budget", "suffix", "dates", "durations"))
+    counter, budget, suffix, dates = ("\n".join(statements(name)) for name in ("counter", "budget", "suffix", "dates"))
     one_width = counter.replace("number width_1080 in 1..5\n", "").replace("width_1080", "width_master")
     yield "rule.text without its last line", rule, path("renditions", "answer").read_text()
     yield "signers.text with a signer called hd", "\n".join(statements("signers")).replace("eva", "hd"), "found "
@@ -238,13 +216,6 @@ def changed_texts():
     yield "suffix.text with a tag at place 10", suffix.replace("place in 9", "place in 10"), "none 1\n"
     yield "dates.text with takes from 1232 on", dates.replace("fourth       1..9", "fourth       2..9"), "none 1\n"
     yield "dates.text with sinks written out", with_sinks(dates), path("dates", "answer").read_text()
-    other_versions = durations.replace("seconds 2", "seconds 1").replace("exact 3", "exact 255")
-    whole = "found 7\ns0 4 0 0 0 11\ns1 1 0\ns2 0\ns3 1 0\ns4 1 0\ns5 5 0 0 0 11 0\n"
-    yield "durations.text with the versions 1 and 255", other_versions, path("durations", "answer").read_text()
-    yield "durations.text with automata", by_moves(durations), path("durations", "answer").read_text()
-    yield "durations.text with two playlists of version 2", durations.replace("exact 3", "exact 2"), "none 1\n"
-    yield "durations.text with a dash before the take", durations.replace("at 1 .", "at 1 -"), "none 1\n"
-    yield "durations.text with takes that may be missing", durations.replace("take length 2", "take length 0, 2"), whole
     yield "budget.text with one automaton", budget.replace("accepting", "state").replace("regular serial odd", ""), "none 1\n"
 
 
@@ -299,17 +270,6 @@ def document_faults(solvers):
         yield "docs/TEXT.md has no template by itself"
 
 
-def guide_faults():
-    """The parts of docs/GUIDE.md for durations: which of some texts each of them is, by a template for each text."""
-    for part, version in (("seconds", 2), ("exact", 3)):
-        fixed = "".join(f'template t{i} = "{text}"\n' for i, text in enumerate(SPELLED))
-        found = sets.checked("docs/GUIDE.md", f"alphabet 0..9 . -\n{guide_parts()}template asked = {part}\n{fixed}".encode())
-        verdicts = {tuple(question["templates"]): question["verdict"] for question in found["questions"]}
-        for i, text in enumerate(SPELLED):
-            if verdicts["asked", f"t{i}"] != ("clash" if is_duration(text, version) else "never"):
-                yield f"the part {part} of docs/GUIDE.md and the text {text}: {verdicts['asked', f't{i}']}"
-
-
 def faults(solvers):
     try:
         for name in EXAMPLES:
@@ -319,7 +279,6 @@ def faults(solvers):
             yield from set_faults(name)
         yield from relation_faults(solvers)
         yield from document_faults(solvers)
-        yield from guide_faults()
     except textform.Wrong as error:
         yield str(error)
 

@@ -1,6 +1,5 @@
 # The example of docs/FORMAT.md: its bytes as the document lists them, the text that they are to be packed from, the answer that it gives, and the calls of
-# the builder that make the same file, which a test of the Rust crate runs. And what the document lists before it: a duration's record, and the automaton with gaps
-# and with a sink.
+# the builder that make the same file, which a test of the Rust crate runs. And the automaton with gaps, and with a sink, that the document lists before it.
 import re
 import sys
 from promises import ROOT
@@ -12,7 +11,6 @@ import textform
 DOCUMENT = ROOT / "docs" / "FORMAT.md"
 BUILT = ROOT / "bindings" / "rust" / "tests" / "builder.rs"
 BLOCK = r"(?:^    .*\n)+"  # lines that are indented
-TIMED = "alphabet 0..9 .\nstring x\nstring y\nstring z\nduration z 3\n"
 LISTED = "alphabet 0..2\nautomaton d\nstate q0 0 to q1\naccepting q1 1 to q1\n"
 SUNK = "alphabet 0..2\nautomaton d\nstate q0 0 to q1, other to q2\naccepting q1 1 to q1, other to q2\nstate q2 any to q2\n"
 BYTES = re.compile(r"^ *(\d+)  (?:00 x (\d+)|((?:[0-9a-f]{2} )*[0-9a-f]{2}))  +\S")
@@ -51,9 +49,6 @@ def wrong():
         return said + [str(error)]
     if content != packed:
         said.append(f"docs/FORMAT.md lists {len(content)} bytes that are not the {len(packed)} of its text")
-    timed = re.search(r"`([0-9a-f ]+)` says that string 2 is a duration of version 3\.", DOCUMENT.read_text())
-    if not timed or bytes.fromhex(timed[1]) != packing.pack(textform.read("a duration", TIMED.encode()))[-packing.TRAILER - 4 : -packing.TRAILER]:
-        said.append("docs/FORMAT.md lists other bytes for the duration")
     sunk = re.search(r"With a\nsink, state 2, it has 14: `([0-9a-f ]+)`", DOCUMENT.read_text())
     for what, digits, written in (("gaps", block("02"), LISTED), ("a sink", sunk[1] if sunk else "", SUNK)):
         if bytes.fromhex(digits) != packing.pack(textform.read(what, written.encode()))[: -packing.TRAILER]:

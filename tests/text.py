@@ -5,7 +5,6 @@ import random
 import subprocess
 import sys
 import tempfile
-from collections import Counter
 from pathlib import Path
 
 from edges import EDGES, P14, automaton, file, problem, row, string
@@ -22,7 +21,6 @@ from problems import PROBLEMS
 
 GENERATED, SEED = 300, 20
 ABC = "alphabet a..c -\n"  # symbols 0 to 3
-DIGITS = "alphabet 0..9 .\n"  # symbols 0 to 10
 X, N, D = 'string x = "a"\n', "number n in 1\n", "automaton d\n"
 
 # (text, the file it is packed into)
@@ -75,16 +73,6 @@ TEXTS = [
         ABC + D + "".join(f"state q{i} a to q{i + 1}\n" for i in range(31)) + "accepting q31",
         problem(4, [], machines=[automaton(4, 32, 1 << 31, [to for i in range(1, 32) for to in (i, 255, 255, 255)] + [255] * 4)]),
     ),
-    # a version stands in its record as it is
-    (
-        DIGITS + "string x length 1\nduration y 3\nstring y length 1\nduration x 1\nduration x 2\nduration y 255\nduration y 3",
-        problem(11, [row({1}, range(11))] * 2, records=[(8, 1, 3, 0), (8, 0, 1, 0), (8, 0, 2, 0), (8, 1, 255, 0), (8, 1, 3, 0)]),
-    ),
-    # a string may be called as a constraint is; letters behind the point are for names
-    (
-        'alphabet 0..9 . a..z A..Z -\nstring duration = "6.06"\nstring name = "a-"\nduration duration 10',
-        problem(64, [string(6, 10, 0, 6), string(11, 63)], records=[(8, 0, 10, 0)]),
-    ),
     (
         "alphabet 0 1\nstring x length 1, 2\nstring y length 0, 1 of 1\nstring z length 2\n  at 1 0\nnumber n in 0..3\ncat x y z\nlen x n",
         P14,
@@ -102,13 +90,10 @@ SHOWN = [
     "alphabet a..z 0..9 -\nautomaton path\n  state start a..z to signer\n  state signer a..z to signer, - to behind\n  state behind 0..9 to counter\n"
     "  accepting counter 0..9 to counter\nautomaton nothing\n  accepting end\nautomaton d\n  state q a..y to end, z to q, 0..4 to r\n"
     "  accepting r 0..9 to q, - to r, other to end\n  state end\n",
-    "alphabet 0..9 . - b a\nstring x\nstring y length 3..5 of 0..9 .\nduration y 255\nneq x y\nduration x 1\n",
 ]
 
 LETTERS64 = 'alphabet a..z A..Z 0..9 - " "'
-STATEMENTS = "alphabet, string, at, number, rule, automaton, state, accepting, eq, neq, rev, cat, sub, len, regular, duration"
-VERSION = "expected a version from 1 to 255 (duration string version), found"
-SPELLED = "a duration is made of the first 11 letters of the alphabet: expected 0..9 . there, found"
+STATEMENTS = "alphabet, string, at, number, rule, automaton, state, accepting, eq, neq, rev, cat, sub, len, regular"
 
 # (text, line of the error, its words)
 BROKEN = [
@@ -216,24 +201,6 @@ BROKEN = [
     (ABC + X + N + "sub x x n", 4, "sub names one string twice: expected different strings"),
     (ABC + X + N + "len x n n", 4, "expected the end of the line, found 'n'"),
     (ABC + X + N + "len x n\n" * 65, 68, "'len' is one constraint too many: expected 64 at most"),
-    (DIGITS + "string x\nduration", 3, "expected the name of a string (duration string version), found the end of the line"),
-    (DIGITS + "string x\nduration x", 3, f"{VERSION} the end of the line"),
-    *((DIGITS + f"string x\nduration x {word}", 3, f"{VERSION} '{word}'") for word in ("0", "256", "03", "-1", "3.0", "x", "9" * 10000)),
-    (DIGITS + 'string x\nduration x "3"', 3, f'{VERSION} "3"'),
-    (DIGITS + "string x\nduration x 3 3", 3, "expected the end of the line, found '3'"),
-    (
-        DIGITS + "string x\nduration 3 x",
-        3,
-        "expected the name of a string (duration string version), found '3' (a name is letters, digits, - and _, and begins with a letter or _)",
-    ),
-    (DIGITS + "string x\n\nduration y 3", 4, "no string is called 'y' (declared: x)"),
-    (DIGITS + N + "string x\nduration n 3", 4, "'n' is a number (line 2): expected a string here (duration string version)"),
-    (DIGITS + "string x\n" + "duration x 3\n" * 65, 67, "'duration' is one constraint too many: expected 64 at most"),
-    (ABC + X + "duration x 3", 3, f"{SPELLED} a..c -"),
-    ("alphabet 0..9\nstring x\nduration x 1", 3, f"{SPELLED} 0..9"),
-    ("alphabet 0..9 - .\nstring x\nduration x 2", 3, f"{SPELLED} 0..9 -"),
-    ("alphabet 1..9 0 . a..z\nstring x\nduration x 255", 3, f"{SPELLED} 1..9 0 ."),
-    ("alphabet a..z 0..9 .\nstring x\nduration x 3", 3, f"{SPELLED} a..k"),
     (b"alphabet a\n# \xff", 2, "a byte is not UTF-8: expected plain text"),
 ]
 
@@ -249,10 +216,8 @@ PATTERNS = [
 ]
 
 UNFIT = "the file has 3 strings, the text 2: expected the text that it was packed from"  # P14's file, the text NAMED
-UNSPELLED = "the file has durations, and the text's alphabet does not begin with 0..9 .: expected the text that it was packed from"
 NAMED = "alphabet x y\nstring course length 1\nstring none = \"\"\nnumber width in 3\n"
 LISTED = 'alphabet a..c -\nstring x = "a"\nautomaton d\n  state q a b to end\n  accepting end\nregular x d\n'
-TIMED = 'alphabet 0..9 . b\nstring x = "6.06"\nduration x 3\n'
 FIRST = "line 1: expected found, none, spent or refused and a number, as the program prints"
 # (lines that the program prints for NAMED, the answer in words or its error)
 ANSWERS = [
@@ -283,23 +248,8 @@ ANSWERS = [
 MEANT = {1: "24 bytes", 2: "TAIL", 3: "out of range", 4: "distances", 5: "automata", 6: "alphabet", 7: "kind", 8: "twice"}
 # (states, a next state, whether a file may have it)
 NEXT = [(1, 0, True), (1, 1, False), (2, 1, True), (2, 2, False), (32, 31, True), (32, 32, False)] + [(q, n, n == 255) for q in (1, 2, 32) for n in (254, 255)]
-# (symbols, a record over two strings, whether a file may have it)
-RECORDS = [
-    *((k, (8, x, version, 0), True) for k in (11, 12, 64) for x in (0, 1) for version in (1, 2, 3, 255)),
-    *((k, (8, 0, 0, 0), False) for k in (11, 64)),
-    *((k, (8, 0, version, 0), False) for k in (1, 10) for version in (1, 3, 255)),
-    *((11, (8, x, 3, 0), False) for x in (2, 255)),
-    *((11, (8, 0, 3, unused), False) for unused in (1, 255)),
-    *((11, (kind, 0, 1, 0), False) for kind in (0, 9, 255)),
-]
-# (symbols, the alphabet that a file without durations is shown with, and one with durations)
-LETTERS = [(11, "0..9 a", "0..9 ."), (12, "0..9 a b", "0..9 . a"), (64, "0..9 a..z A..Z - _", "0..9 . a..z A..Z -")]
 REFUSED_5 = (
     "refused 5: the automata are not exactly as many as the trailer counts, each with 1 to 32 states and every next state one of them, or 255 for no move"
-)
-REFUSED_7 = (
-    "refused 7: a constraint is of no kind from 1 to 8, names a variable or an automaton that is not there, or has an unused argument that is not 0; "
-    "or it is a duration, and its version is 0 or there are fewer than 11 symbols"
 )
 
 
@@ -331,22 +281,22 @@ def any_automaton(rng, k):
     return automaton(k, q, rng.choice([0, 2**q - 1, rng.getrandbits(q)]), moves)
 
 
-def any_record(rng, k, s, t, d):
+def any_record(rng, s, t, d):
     """A constraint between things that are there."""
-    kinds = [1, 2, 3] * (s > 1) + [4] * (s > 2) + [5] * (s > 1 and t > 0) + [6] * (s > 0 and t > 0) + [7] * (s > 0 and d > 0) + [8] * (s > 0 and k > 10)
+    kinds = [1, 2, 3] * (s > 1) + [4] * (s > 2) + [5] * (s > 1 and t > 0) + [6] * (s > 0 and t > 0) + [7] * (s > 0 and d > 0)
     if not kinds:
         return []
     kind = rng.choice(kinds)
-    strings = rng.sample(range(s), {4: 3, 6: 1, 7: 1, 8: 1}.get(kind, 2))
-    last = {5: range(t), 6: range(t), 7: range(d), 8: range(1, 256)}.get(kind)
-    return [([kind] + strings + ([] if last is None else [rng.choice(last)]) + [0, 0])[:4]]
+    strings = rng.sample(range(s), {4: 3, 6: 1, 7: 1}.get(kind, 2))
+    last = {5: t, 6: t, 7: d}.get(kind)
+    return [([kind] + strings + ([] if last is None else [rng.randrange(last)]) + [0, 0])[:4]]
 
 
 def generated(rng):
     """A file that Read accepts."""
-    k, s, t, d = rng.choice([1, 2, 10, 11, 37, 63, 64]), rng.choice([0, 1, 2, 3, 16]), rng.choice([0, 1, 2, 16]), rng.choice([0, 1, 2, 8])
+    k, s, t, d = rng.choice([1, 2, 10, 37, 63, 64]), rng.choice([0, 1, 2, 3, 16]), rng.choice([0, 1, 2, 16]), rng.choice([0, 1, 2, 8])
     table = [word for _ in range(s) for word in any_row(rng, k)] + words(rng, 64, t)
-    records = [record for _ in range(rng.choice([0, 1, 5, 64])) for record in any_record(rng, k, s, t, d)]
+    records = [record for _ in range(rng.choice([0, 1, 5, 64])) for record in any_record(rng, s, t, d)]
     machines = b"".join(any_automaton(rng, k) for _ in range(d))
     return file(k, s, t, d, words=dict(enumerate(table)), records=records, machines=machines)
 
@@ -398,18 +348,16 @@ def accepted():
 
 
 def round_trips(files):
-    """What show prints is packed into the same bytes; constraints of every kind are shown by the hundred."""
-    wrong, kinds = [], Counter()
+    """What show prints is packed into the same bytes."""
+    wrong = []
     for what, content in files:
         try:
-            unpacked = packing.unpack(content)
-            kinds.update(kind for kind, _ in unpacked.constraints)
-            right = packed(wording.text(unpacked)) == content
+            right = packed(wording.text(packing.unpack(content))) == content
         except packing.Refused as error:
             right = False
             what += f": {error}"
         wrong += [] if right else [f"{what}: not the same bytes after show and pack"]
-    return wrong + [f"only {kinds[kind]} constraints of kind {kind} are shown" for kind in range(1, 9) if kinds[kind] < 100]
+    return wrong
 
 
 def named_trips():
@@ -453,20 +401,6 @@ def next_states():
     return wrong
 
 
-def durations():
-    """Which records of kind 8 a file may have, and the letters that it is then shown with."""
-    wrong = []
-    for k, record, good in RECORDS:
-        content = problem(k, [string(), string()], records=[record])
-        said = complaint(lambda: packing.unpack(content), packing.Refused)
-        wrong += [] if said == ("no error" if good else REFUSED_7) else [f"the record {record} over {k} symbols: {said}"]
-    for k, *alphabets in LETTERS:
-        for records, letters in zip(([(1, 0, 1, 0)], [(1, 0, 1, 0), (8, 1, 2, 0)]), alphabets):
-            shown = wording.text(packing.unpack(problem(k, [string(), string()], records=records))).split("\n")[0]
-            wrong += [] if shown == f"alphabet {letters}" else [f"{k} symbols are shown as '{shown}'"]
-    return wrong
-
-
 def answers():
     problem_named, wrong = read(NAMED), []
     for lines, expected in ANSWERS:
@@ -483,16 +417,11 @@ def run(*arguments, given=b""):
     return done.returncode, done.stdout, done.stderr.decode()
 
 
-def unlike(what, runs):
-    """A line for each run that is not as expected."""
-    return [f"{what} {i}: {got!r} is not {expected!r}" for i, (got, expected) in enumerate(runs) if got != expected]
-
-
 def commands():
     """The tool as it is called: exit status, standard output, standard error, and what is written."""
     with tempfile.TemporaryDirectory() as folder:
-        good, bad, other, listed = (Path(folder) / name for name in ("good.text", "bad.text", "other.text", "listed.text"))
-        made, cut, gap, past = (Path(folder) / name for name in ("made.problem", "cut.problem", "gap.problem", "past.problem"))
+        names = ("good.text", "bad.text", "other.text", "listed.text", "made.problem", "cut.problem", "gap.problem", "past.problem")
+        good, bad, other, listed, made, cut, gap, past = (Path(folder) / name for name in names)
         good.write_text(TEXTS[-1][0])
         other.write_text(NAMED)
         bad.write_text(ABC + "eq x y")
@@ -532,39 +461,17 @@ def commands():
             (run("weigh", good)[:2], (4, b"")),
             (run()[:2], (4, b"")),
         ]
-    return unlike("command", runs)
-
-
-def duration_commands():
-    """The same of a text and a file with a duration."""
-    with tempfile.TemporaryDirectory() as folder:
-        timed, turned, untimed = (Path(folder) / name for name in ("timed.text", "turned.text", "untimed.text"))
-        point, early = (Path(folder) / name for name in ("point.problem", "early.problem"))
-        timed.write_text(TIMED)
-        turned.write_text(TIMED.replace("alphabet 0..9 . b", "alphabet 0..9 b ."))
-        untimed.write_text(turned.read_text().replace("duration x 3\n", ""))
-        point.write_bytes(problem(12, [string(6, 10, 0, 6)], records=[(8, 0, 3, 0)]))
-        early.write_bytes(problem(12, [string(6, 10, 0, 6)], records=[(8, 0, 0, 0)]))
-        runs = [
-            (run("pack", timed), (0, point.read_bytes(), "")),
-            (run("show", "--names", timed, point), (0, TIMED.encode(), "")),
-            (run("show", point), (0, TIMED.replace("0..9 . b", "0..9 . a").replace(" x ", " s0 ").encode(), "")),
-            (run("show", early), (3, b"", f"{early}: {REFUSED_7}\n")),
-            (run("pack", turned), (3, b"", f"{turned}:3: {SPELLED} 0..9 b\n")),
-            (run("show", "--names", untimed, point), (4, b"", f"{point}: {UNSPELLED}\n")),
-        ]
-    return unlike("command of durations", runs)
+    return [f"command {i}: {got!r} is not {expected!r}" for i, (got, expected) in enumerate(runs) if got != expected]
 
 
 def main():
     files = accepted()
-    wrong = texts() + errors() + translations() + round_trips(files) + named_trips() + refusals() + next_states() + durations() + answers()
-    wrong += commands() + duration_commands()
+    wrong = texts() + errors() + translations() + round_trips(files) + named_trips() + refusals() + next_states() + answers() + commands()
     for line in wrong:
         print("text: " + line)
     if not wrong:
         counts = ((TEXTS + SHOWN, "texts"), (BROKEN, "broken texts"), (PATTERNS, "patterns put into the library's letters"))
-        counts += ((files, "files shown and packed again"), (EDGES, "edges of Read"), (NEXT, "next states"), (RECORDS, "records"), (ANSWERS, "answers"))
+        counts += ((files, "files shown and packed again"), (EDGES, "edges of Read"), (NEXT, "next states"), (ANSWERS, "answers"))
         print("text: " + ", ".join(f"{len(cases)} {name}" for cases, name in counts) + " stand")
     return 1 if wrong else 0
 

@@ -13,10 +13,7 @@ LARGEST_FILE = 25024  # bytes
 TRAILER = 24  # bytes
 GAP = 255  # in the place of a next state: there is no move, and the string is rejected
 MARK = b"TAIL"
-SPELLING = digits + "."  # the symbols 0 to 10, as a duration has them
 DEFAULT_LETTERS = digits + ascii_lowercase + ascii_uppercase + "-_"  # 64 of them
-DURATION_LETTERS = SPELLING + ascii_lowercase + ascii_uppercase + "-"  # as many, where a file has durations
-VERSIONS = [str(version) for version in range(256)]  # the name of each, at its position; no playlist has version 0
 
 # Each kind of constraint in the order of its number, from 1: its name, and what its arguments name.
 KINDS = [
@@ -27,9 +24,7 @@ KINDS = [
     ("sub", ("string", "string", "number")),
     ("len", ("string", "number")),
     ("regular", ("string", "automaton")),
-    ("duration", ("string", "version")),
 ]
-DURATION = 1 + [word for word, _ in KINDS].index("duration")
 
 REFUSALS = {
     1: "the file has fewer than 24 bytes",
@@ -38,8 +33,7 @@ REFUSALS = {
     4: "the parts do not lie one behind the other as the trailer's distances say, or the file is longer than the largest one, 25024 bytes",
     5: "the automata are not exactly as many as the trailer counts, each with 1 to 32 states and every next state one of them, or 255 for no move",
     6: "a string allows a symbol that is not in the alphabet",
-    7: "a constraint is of no kind from 1 to 8, names a variable or an automaton that is not there, or has an unused argument that is not 0; or it is a duration, "
-    "and its version is 0 or there are fewer than 11 symbols",
+    7: "a constraint is of no kind from 1 to 7, names a variable or an automaton that is not there, or has an unused argument that is not 0",
     8: "a constraint names one string twice",
 }
 
@@ -70,15 +64,12 @@ class Problem:
     constraints: list  # (kind from 1, positions of what it names)
 
     def named(self, noun):
-        return {"string": self.strings, "number": self.numbers, "automaton": self.automata, "version": VERSIONS}[noun]
+        return {"string": self.strings, "number": self.numbers, "automaton": self.automata}[noun]
 
     def names(self, constraint):
         """What a constraint names, in the order of its arguments."""
         kind, positions = constraint
         return [list(self.named(noun))[position] for noun, position in zip(KINDS[kind - 1][1], positions)]
-
-    def has_durations(self):
-        return any(kind == DURATION for kind, _ in self.constraints)
 
 
 def repeats(kind, arguments):
@@ -103,7 +94,7 @@ def pack(problem):
 
 
 def unpack(content):
-    """The problem in a file, its variables named by kind and position, its symbols by the default letters, or those for durations. Raises Refused."""
+    """The problem in a file, its variables named by kind and position, its symbols by the default letters. Raises Refused."""
     if len(content) > LARGEST_FILE:
         raise Refused(4)
     if len(content) < TRAILER:
@@ -124,8 +115,6 @@ def unpack(content):
     rows, values = unpack_table(parts[:behind_table], k, s)
     problem = Problem(DEFAULT_LETTERS[:k], numbered("s", rows), numbered("n", values), numbered("d", automata), [])
     problem.constraints = unpack_constraints(parts[behind_table:behind_constraints], problem)
-    if problem.has_durations():
-        problem.letters = DURATION_LETTERS[:k]
     return problem
 
 
@@ -168,8 +157,6 @@ def unpack_constraints(content, problem):
         nouns = KINDS[kind - 1][1] if 1 <= kind <= len(KINDS) else ()
         positions = tuple(arguments[: len(nouns)])
         if not nouns or any(arguments[len(nouns) :]) or any(p >= len(problem.named(noun)) for p, noun in zip(positions, nouns)):
-            raise Refused(7)
-        if kind == DURATION and (positions[1] == 0 or len(problem.letters) < len(SPELLING)):
             raise Refused(7)
         constraints.append((kind, positions))
     if any(repeats(*constraint) for constraint in constraints):

@@ -3,9 +3,8 @@
 from typing import NamedTuple
 
 from lines import Wrong  # for those who read texts
-from packing import EVERY, KINDS, LIMIT, MOST, SPELLING, VERSIONS, Problem, repeats
+from packing import EVERY, KINDS, LIMIT, MOST, Problem, repeats
 from statements import Statements
-from wording import letters_shown
 
 A = {"string": "a string", "number": "a number", "automaton": "an automaton", "rule": "a rule"}
 WORDS = [word for word, _ in KINDS]
@@ -103,20 +102,7 @@ class Reader(Statements):
         name, nouns = KINDS[kind - 1]
         if len(self.constraints) == MOST["constraints"]:
             raise line.wrong(f"'{name}' is one constraint too many: expected {MOST['constraints']} at most")
-        form = f"({name} {' '.join(nouns)})"
-        names = [self.version(line, form) if noun == "version" else line.name(f"{A[noun]} {form}") for noun in nouns]
-        self.constraints.append((line, kind, names))
-
-    def version(self, line, form):
-        """The version of a duration, whose digits and point are the first letters of the alphabet: any others there would be taken for them."""
-        expected = f"a version from 1 to {VERSIONS[-1]} {form}"
-        token = line.take(expected)
-        if token.quoted or token.text not in VERSIONS[1:]:
-            raise line.wrong(f"expected {expected}, found {token}")
-        if not self.symbols.startswith(SPELLING):
-            found = letters_shown(self.symbols[: len(SPELLING)])
-            raise line.wrong(f"a duration is made of the first {len(SPELLING)} letters of the alphabet: expected {letters_shown(SPELLING)} there, found {found}")
-        return token.text
+        self.constraints.append((line, kind, [line.name(f"{A[noun]} ({name} {' '.join(nouns)})") for noun in nouns]))
 
     def resolved(self, line, kind, names):
         """A constraint by the positions of what it names."""

@@ -4,7 +4,7 @@ import re
 from collections import Counter
 from string import ascii_lowercase, ascii_uppercase, digits
 
-from packing import EVERY, GAP, KINDS, LIMIT, REFUSALS, SPELLING, Problem
+from packing import EVERY, GAP, KINDS, LIMIT, REFUSALS, Problem
 
 
 def quoted(text):
@@ -123,8 +123,6 @@ def renamed(problem, names):
     for (what, expected), (_, count) in zip(*sizes):
         if count != expected:
             raise Unfit(f"the file has {count} {what}, the text {expected}: expected the text that it was packed from")
-    if problem.has_durations() and not names.letters.startswith(SPELLING):
-        raise Unfit(f"the file has durations, and the text's alphabet does not begin with {letters_shown(SPELLING)}: expected the text that it was packed from")
     for automaton, named in zip(problem.automata.values(), names.automata.values()):
         automaton.states = named.states
     strings, numbers, automata = (dict(zip(names.named(noun), problem.named(noun).values())) for noun in ("string", "number", "automaton"))

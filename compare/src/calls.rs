@@ -92,9 +92,6 @@ impl Calls<'_> {
         if let Some(&Relation::Regular(x, d)) = self.relations.get(j) {
             self.tally.gaps.step(&self.automata[d], &row(words, x), &row(table.theirs(), x));
         }
-        if let Some(&Relation::Duration(x, version)) = self.relations.get(j) {
-            self.tally.durations.step(version, &row(words, x), &row(table.theirs(), x));
-        }
         if self.try_choices {
             self.try_choices(j, words, struck, &mut table)?;
         }
@@ -158,19 +155,12 @@ impl Calls<'_> {
         if room_words >= 3 * words + 1000 && theirs.is_ok() {
             self.tally.came_up(Event::WideRoom);
         }
-        if matches!(theirs, Ok(Outcome::Found(_))) {
-            self.solved(table.theirs());
-        }
-        Ok(theirs.ok())
-    }
-
-    /// Counts what is far out in a solution.
-    fn solved(&mut self, answer: &[u64]) {
+        let answer = table.theirs();
         let mut parts = self.relations.iter().filter_map(|relation| part(relation, answer));
-        if parts.any(|[x, _, n]| tally::is_past(x, n)) {
+        if matches!(theirs, Ok(Outcome::Found(_))) && parts.any(|[x, _, n]| tally::is_past(x, n)) {
             self.tally.came_up(Event::SolvedPast);
         }
-        self.tally.durations.solved(&self.relations, answer);
+        Ok(theirs.ok())
     }
 
     /// The second solver takes the calls one by one; one that is refused leaves the table.
@@ -221,7 +211,6 @@ fn kind(relation: &Relation) -> usize {
         Relation::Sub(..) => 5,
         Relation::Len(..) => 6,
         Relation::Regular(..) => 7,
-        Relation::Duration(..) => 8,
     }
 }
 

@@ -2,7 +2,6 @@
 
 use crate::damage::{self, Damage};
 use crate::draft::Draft;
-use crate::durations;
 use crate::gaps::{self, Pair};
 use crate::kind::{Kind, COSTLY_EVERY};
 use crate::measure::Measure;
@@ -63,7 +62,6 @@ fn file(kind: Kind, random: &mut Random) -> Vec<u8> {
         Kind::Late => late::difference(random).bytes(),
         Kind::Chain => late::chain(random).bytes(),
         Kind::Gaps => gaps::ruled(random, gaps::MOST_STATES).bytes(),
-        Kind::Durations => durations::published(random).bytes(),
         Kind::Damaged => damaged(random, damage::sound, false),
         Kind::TwiceDamaged => damaged(random, damage::sound, true),
         Kind::DamagedLimits => {

@@ -5,17 +5,16 @@ mod parts;
 mod trailer;
 
 use crate::draft::{below, Draft, LIMIT, NOTHING};
-use crate::durations::LEAST_SYMBOLS;
 use crate::gaps;
-use crate::generate::{kinds, record};
+use crate::generate::record;
 use crate::random::Random;
 pub use change::Damage;
 use change::{Change, MOST_RECORDS};
 
 /// A problem that every damage can be done to: there is something of each sort, and no count is at its limit.
 pub fn sound(random: &mut Random) -> Draft {
-    let (few, any) = (random.between(2, 5), random.between(2, 62));
-    let symbols = *random.pick(&[few, few, any, LEAST_SYMBOLS, LEAST_SYMBOLS - 1]);
+    let most = *random.pick(&[5, 5, 5, 62]);
+    let symbols = random.between(2, most);
     let mut draft = Draft::over(symbols);
     let (strings, numbers, automata) = if random.once_in(8) { (15, 15, 7) } else { (random.between(3, 4), random.between(1, 2), random.between(1, 2)) };
     for _ in 0..strings {
@@ -29,8 +28,7 @@ pub fn sound(random: &mut Random) -> Draft {
         let states = random.between(1, 6);
         draft.machines.push(gaps::any(random, symbols, states));
     }
-    let kinds = kinds(symbols);
-    for &kind in &kinds[..random.between(1, kinds.len())] {
+    for kind in 1..=random.between(1, 7) as u8 {
         draft.records.extend(record(random, kind, strings, numbers, automata));
     }
     draft
@@ -49,8 +47,8 @@ pub fn sound_at_limits(random: &mut Random) -> Draft {
         let states = *random.pick(&[32, 32, 32, 31, 1]);
         draft.machines.push(gaps::any(random, symbols, states));
     }
-    for &kind in kinds(symbols).iter().cycle().take(constraints) {
-        draft.records.extend(record(random, kind, strings, numbers, automata));
+    for at in 0..constraints {
+        draft.records.extend(record(random, 1 + (at % 7) as u8, strings, numbers, automata));
     }
     draft
 }

@@ -98,10 +98,6 @@ impl Draft {
         self.records.push([7, x, d, 0]);
     }
 
-    pub fn duration(&mut self, x: u8, version: u8) {
-        self.records.push([8, x, version, 0]);
-    }
-
     pub fn laid(&self) -> Laid {
         let words = self.rows.iter().flatten().chain(&self.numbers);
         let table: Vec<u8> = words.flat_map(|word| word.to_le_bytes()).collect();

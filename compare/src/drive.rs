@@ -31,7 +31,6 @@ impl Drive<'_> {
             return self.refused_file().map(|()| None);
         };
         self.calls.tally.gaps.problem(&problem);
-        self.calls.tally.durations.problem(&problem);
         self.calls.relations = problem.constraints.clone();
         self.calls.automata = problem.automata.clone();
         self.calls.unpack(problem.table.len())?;

@@ -1,7 +1,6 @@
 //! Problems of any kind of constraint: small and dense ones, large ones, those at the limits, and those of many steps.
 
 use crate::draft::{any, below, just, Draft, Row, LIMIT, NOTHING};
-use crate::durations::{self, LEAST_SYMBOLS};
 use crate::gaps;
 use crate::random::Random;
 use second::relations::{Automaton, Relation};
@@ -18,21 +17,8 @@ struct Shape {
     states: usize,
 }
 
-/// All kinds of constraints that a problem over so many symbols can have.
-pub fn kinds(symbols: usize) -> &'static [u8] {
-    let all = &[1, 2, 3, 4, 5, 6, 7, 8];
-    if symbols < LEAST_SYMBOLS {
-        &all[..7]
-    } else {
-        all
-    }
-}
-
-/// Kinds that a problem draws from: all, or some that often contradict one another only deep in the tree.
-fn mix(random: &mut Random, symbols: usize) -> &'static [u8] {
-    let all = kinds(symbols);
-    *random.pick(&[all, all, &[2, 3, 7], &[2, 4, 7], &[1, 2, 7, 7], &[4, 5, 6]])
-}
+/// Kinds of constraints that a problem draws from: all, or some that often contradict one another only deep in the tree.
+const MIXES: [&[u8]; 6] = [&[1, 2, 3, 4, 5, 6, 7], &[1, 2, 3, 4, 5, 6, 7], &[2, 3, 7], &[2, 4, 7], &[1, 2, 7, 7], &[4, 5, 6]];
 
 /// Few symbols, short strings.
 pub fn small(random: &mut Random) -> Draft {
@@ -93,7 +79,7 @@ fn loose(random: &mut Random, shape: &Shape, mut draft: Draft) -> Draft {
     let share = *random.pick(&[2, 4, 6, 7, 8, 8]);
     draft.rows = (0..shape.strings).map(|_| row(random, shape, share)).collect();
     draft.numbers = (0..shape.numbers).map(|_| number(random, shape.longest)).collect();
-    let mix = mix(random, shape.symbols);
+    let mix = *random.pick(&MIXES);
     for _ in 0..shape.constraints {
         let kind = *random.pick(mix);
         draft.records.extend(record(random, kind, shape.strings, shape.numbers, shape.automata));
@@ -132,15 +118,12 @@ fn some_words(random: &mut Random, shape: &Shape) -> Row {
     row
 }
 
-/// Strings of which later ones often come from earlier ones, so that constraints hold between them. Some are durations, where there are symbols enough.
+/// Strings of which later ones often come from earlier ones, so that constraints hold between them.
 fn values(random: &mut Random, shape: &Shape) -> Vec<Vec<u8>> {
     let mut strings: Vec<Vec<u8>> = Vec::new();
     for _ in 0..shape.strings {
         let length = random.below(shape.longest + 1);
         let mut string: Vec<u8> = (0..length).map(|_| random.below(shape.symbols) as u8).collect();
-        if shape.symbols >= LEAST_SYMBOLS && length > 0 && random.once_in(3) {
-            string = durations::any(random, length);
-        }
         if !strings.is_empty() {
             let (x, y) = (random.pick(&strings).clone(), random.pick(&strings).clone());
             match random.below(7) {
@@ -163,7 +146,7 @@ fn values(random: &mut Random, shape: &Shape) -> Vec<Vec<u8>> {
 fn met(random: &mut Random, shape: &Shape, draft: &Draft, strings: &[Vec<u8>], numbers: &[usize]) -> Vec<[u8; 4]> {
     let header = Header { symbols: shape.symbols, strings: shape.strings, numbers: shape.numbers, automata: shape.automata, constraints: 0 };
     let automata: Vec<Automaton> = draft.machines.iter().map(|bytes| automaton(bytes, shape.symbols)).collect();
-    let mix = mix(random, shape.symbols);
+    let mix = *random.pick(&MIXES);
     let mut records = Vec::new();
     for _ in 0..12 * shape.constraints {
         let kind = *random.pick(mix);
@@ -199,8 +182,7 @@ pub fn record(random: &mut Random, kind: u8, strings: usize, numbers: usize, aut
         4 => [4, string(0)?, string(1)?, string(2)?],
         5 => [5, string(0)?, string(1)?, one_of(numbers)?],
         6 => [6, string(0)?, one_of(numbers)?, 0],
-        7 => [7, string(0)?, one_of(automata)?, 0],
-        _ => [8, string(0)?, durations::version(random), 0],
+        _ => [7, string(0)?, one_of(automata)?, 0],
     })
 }
 
@@ -250,7 +232,7 @@ pub fn limits(random: &mut Random) -> Draft {
     draft.rows = (0..strings).map(|_| row_at_limits(random, symbols)).collect();
     draft.numbers = (0..numbers).map(|_| *random.pick(&[u64::MAX, 0, 1 << 63, 1, 3 << 62, u64::MAX - 1])).collect();
     for _ in 0..constraints {
-        let kind = *random.pick(kinds(symbols));
+        let kind = *random.pick(&[1, 2, 3, 4, 5, 6, 7]);
         draft.records.extend(record(random, kind, strings, numbers, automata));
     }
     draft

@@ -20,7 +20,6 @@ pub enum Kind {
     Tree,
     Gaps,
     Pairs,
-    Durations,
     Damaged,
     TwiceDamaged,
     DamagedLimits,
@@ -33,7 +32,7 @@ pub enum Kind {
 
 impl Kind {
     /// In the order above.
-    pub const ALL: [Kind; 21] = [
+    pub const ALL: [Kind; 20] = [
         Kind::Small,
         Kind::Suffix,
         Kind::Large,
@@ -46,7 +45,6 @@ impl Kind {
         Kind::Tree,
         Kind::Gaps,
         Kind::Pairs,
-        Kind::Durations,
         Kind::Damaged,
         Kind::TwiceDamaged,
         Kind::DamagedLimits,
@@ -71,7 +69,6 @@ impl Kind {
             Kind::Tree => "known trees",
             Kind::Gaps => "gaps",
             Kind::Pairs => "gaps and sinks",
-            Kind::Durations => "durations",
             Kind::Damaged => "damaged",
             Kind::TwiceDamaged => "damaged twice",
             Kind::DamagedLimits => "damaged at the limits",
@@ -86,7 +83,7 @@ impl Kind {
     /// In how many of 10,000 cases it is picked. The costly kinds are rare, since one of them takes as long as hundreds of small ones.
     fn share(self) -> usize {
         match self {
-            Kind::Small => 2780,
+            Kind::Small => 2980,
             Kind::Suffix => 200,
             Kind::Large => 250,
             Kind::Limits => 70,
@@ -98,7 +95,6 @@ impl Kind {
             Kind::Tree => 10,
             Kind::Gaps => 200,
             Kind::Pairs => 200,
-            Kind::Durations => 200,
             Kind::Damaged => 1700,
             Kind::TwiceDamaged => 800,
             Kind::DamagedLimits => 900,

@@ -1,9 +1,8 @@
 //! Problems in which something shows late: a difference far behind in long strings, and rounds that go on for long.
 
 use crate::draft::{any, below, just, Draft, Row, LIMIT};
-use crate::generate::kinds;
 use crate::random::Random;
-use crate::{durations, gaps, rules};
+use crate::{gaps, rules};
 
 /// The longest string.
 const LONGEST: usize = LIMIT - 1;
@@ -16,12 +15,11 @@ pub fn difference(random: &mut Random) -> Draft {
     let string: Vec<u8> = (0..length).map(|_| random.below(symbols) as u8).collect();
     let any = random.between(34, length);
     let place = *random.pick(&[50, length, any]);
-    match *random.pick(kinds(symbols)) {
-        kind @ 1..=3 => pair(random, &mut draft, kind, &string, place),
+    match random.between(1, 7) {
+        kind @ 1..=3 => pair(random, &mut draft, kind as u8, &string, place),
         4 => joined(random, &mut draft, &string, place),
         5 => part(random, &mut draft, &string, place),
         6 => measured(random, &mut draft, &string),
-        8 => durations::late(random, &mut draft, &string, place),
         _ => ruled(random, &mut draft, &string, place),
     }
     draft

@@ -5,9 +5,9 @@
 //! Each case is one problem file with many calls of every entry but Compile, and each pattern is one text that Compile is called with; each is made from the
 //! seed and its index alone, so that `--only` and `--only-pattern` repeat it. There are four patterns for ten cases, where nothing is said. Some cases also go
 //! through the program at PATH. A disagreement is printed, its file is left in target/compare-failure.problem or its text in target/compare-failure.pattern,
-//! and the exit status is 1; so it is if some refusal, outcome, kind of case or text, kind of constraint, sort of automaton or of index, version of a duration,
-//! or event that is far from most cases or texts never came up. Should the library end the process, as by touching a page beside what it was lent, that is
-//! printed as a disagreement too; `--only` and `--only-pattern` then leave the file or the text.
+//! and the exit status is 1; so it is if some refusal, outcome, kind of case or text, kind of constraint, sort of automaton or of index, or event that is far from most cases
+//! or texts never came up. Should the library end the process, as by touching a page beside what it was lent, that is printed as a disagreement too;
+//! `--only` and `--only-pattern` then leave the file or the text.
 
 mod by_crate;
 mod by_index;
@@ -18,7 +18,6 @@ mod damage;
 mod disagreement;
 mod draft;
 mod drive;
-mod durations;
 mod ended;
 /// The declarations of the crate over the archive: called as they stand, they show what a refused call writes. The version alone is not called, since the
 /// second solver has none.

@@ -21,12 +21,12 @@ impl Measure {
             Kind::Large => ([3, 20, 60], 40, 60),
             Kind::Limits => ([2, 10, 30], 30, 20),
             Kind::Many => ([3, 20, 60], 30, 20),
-            Kind::Suffix | Kind::Templates | Kind::Gaps | Kind::Pairs | Kind::Durations => ([30, 100, 300], 40, 60),
+            Kind::Suffix | Kind::Templates | Kind::Gaps | Kind::Pairs => ([30, 100, 300], 40, 60),
             Kind::Hard => ([300, 1000, 3000], 100, 60),
             Kind::Late => ([3, 20, 60], 40, 60),
             Kind::Chain => ([1, 2, 3], 20, 3),
             _ => ([1000; 3], 100, 2000),
         };
-        Measure { budget: *random.pick(&budgets), steps, calls, try_choices: matches!(kind, Kind::Small | Kind::Suffix | Kind::Gaps | Kind::Durations) }
+        Measure { budget: *random.pick(&budgets), steps, calls, try_choices: matches!(kind, Kind::Small | Kind::Suffix | Kind::Gaps) }
     }
 }

@@ -1,7 +1,6 @@
 //! What has been compared, and whether anything never came up.
 
 use crate::by_index::ByIndex;
-use crate::durations::Durations;
 use crate::gaps::Gaps;
 use crate::kind::Kind;
 use crate::patterns::Texts;
@@ -15,7 +14,7 @@ const ENTRIES: [&str; 10] = ["read", "unpack", "step", "settle", "search", "perf
 const OUTCOMES: [&str; 3] = ["found", "none", "spent"];
 /// Those of all entries but Compile.
 const REFUSALS: [u8; 15] = [1, 2, 3, 4, 5, 6, 7, 8, 9, 10, 11, 12, 13, 18, 19];
-const RELATIONS: [&str; 9] = ["trimming", "Eq", "Neq", "Rev", "Cat", "Sub", "Len", "Regular", "Duration"];
+const RELATIONS: [&str; 8] = ["trimming", "Eq", "Neq", "Rev", "Cat", "Sub", "Len", "Regular"];
 
 /// What is far from where most cases are, and must come up all the same.
 #[derive(Clone, Copy)]
@@ -81,7 +80,7 @@ pub struct Tally {
     /// Refused calls by their number; none has the number 0.
     refusals: [u64; 20],
     /// Steps that struck something, by the kind of their constraint; trimming is 0.
-    pub struck: [u64; RELATIONS.len()],
+    pub struck: [u64; 8],
     events: [u64; EVENTS.len()],
     /// The greatest that came up, in the order of the names above.
     maxima: [u64; MAXIMA.len()],
@@ -91,7 +90,6 @@ pub struct Tally {
     pub runs: u64,
     pub by_index: ByIndex,
     pub gaps: Gaps,
-    pub durations: Durations,
     pub texts: Texts,
 }
 
@@ -181,10 +179,8 @@ impl Tally {
     pub fn file(&mut self, file: &[u8], refused: Option<u8>) {
         let bytes = file.len();
         self.greatest(5, bytes as u64);
-        match refused {
-            Some(5) => self.gaps.refused(file),
-            Some(7) => self.durations.refused(file),
-            _ => {}
+        if refused == Some(5) {
+            self.gaps.refused(file);
         }
         match refused {
             Some(4) if bytes > LARGEST_FILE => self.came_up(Event::OversizedLayout),
@@ -210,7 +206,6 @@ impl Tally {
         self.runs += other.runs;
         self.by_index.add(&other.by_index);
         self.gaps.add(&other.gaps);
-        self.durations.add(&other.durations);
         self.texts.add(&other.texts);
     }
 
@@ -229,7 +224,6 @@ impl Tally {
             ("greatest", named(&MAXIMA, &self.maxima)),
         ];
         groups.extend(self.gaps.groups());
-        groups.extend(self.durations.groups());
         groups.extend(self.by_index.groups());
         groups
     }
@@ -305,9 +299,6 @@ mod tests {
             "far out: rounds beyond 34",
             "indexes lent: right",
             "automata: with few gaps",
-            "steps that struck: Duration",
-            "durations: version 255",
-            "durations refused by 7 alone for: version 0",
         ] {
             assert!(missing.contains(&name.to_string()), "{name} in {missing:?}");
         }

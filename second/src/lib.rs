@@ -2,7 +2,6 @@
 //! numbers, made to be compared with another one. Clear before fast.
 
 pub mod domain;
-pub mod duration;
 pub mod enumerate;
 pub mod file;
 pub mod header;

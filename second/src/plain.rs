@@ -3,7 +3,6 @@
 //! can be filled, and keep what can stand there.
 
 use crate::domain::{self, bit, bits, highest, possible_lengths, Kept, Row, EMPTY};
-use crate::duration::{self, DIGITS, POINT};
 use crate::file::Problem;
 use crate::relations::{Automaton, Relation};
 
@@ -25,7 +24,6 @@ pub fn step(problem: &Problem, relation: Relation, table: &mut [u64]) -> u32 {
         Relation::Sub(..) => sub(&rows[0], &rows[1], number),
         Relation::Len(..) => len(&rows[0], number),
         Relation::Regular(_, d) => regular(&rows[0], &problem.automata[d]),
-        Relation::Duration(_, v) => duration(&rows[0], v),
     };
     domain::strike(table, &names, number_place, &kept)
 }
@@ -281,34 +279,4 @@ fn leads_into(automaton: &Automaton, state: usize, symbol: usize, set: u32) -> b
 /// The states of a set, lowest first.
 fn states(set: u32) -> impl Iterator<Item = usize> {
     bits(u64::from(set))
-}
-
-/// A length stays if a point at some place, or none, leaves digits for all
-/// other places; a digit stays beside each such point that is not in its place.
-fn duration(x: &Row, version: usize) -> Kept {
-    let mut kept = EMPTY;
-    for l in bits(x[0]) {
-        let bare: Vec<usize> = (1..=l).filter(|&i| x[i] & DIGITS == 0).collect();
-        let mut points = duration::points(l, version);
-        points.retain(|&point| {
-            let allowed = point.is_none_or(|i| domain::has(x[i], POINT.into()));
-            allowed && bare.iter().all(|&i| point == Some(i))
-        });
-        if points.is_empty() {
-            continue;
-        }
-        kept[0] |= bit(l);
-        for i in 1..=l {
-            if points.iter().any(|&point| point != Some(i)) {
-                kept[i] |= x[i] & DIGITS;
-            }
-        }
-        for i in points.into_iter().flatten() {
-            kept[i] |= bit(POINT.into());
-        }
-    }
-    Kept {
-        rows: vec![kept],
-        number: 0,
-    }
 }

@@ -1,6 +1,5 @@
 //! The constraints, as tests on concrete strings and numbers.
 
-use crate::duration;
 use crate::header::Header;
 
 /// A constraint with its variables named by position. `Always` is what
@@ -15,8 +14,6 @@ pub enum Relation {
     Sub(usize, usize, usize),
     Len(usize, usize),
     Regular(usize, usize),
-    /// A string and the version of its playlist.
-    Duration(usize, usize),
 }
 
 impl Relation {
@@ -29,8 +26,6 @@ impl Relation {
         let string = |x: usize| x < header.strings;
         let number = |n: usize| n < header.numbers;
         let automaton = |d: usize| d < header.automata;
-        // Refused "when v is 0 or k is under 11".
-        let version = |v: usize| v != 0 && header.symbols >= duration::LEAST_SYMBOLS;
         let (relation, good) = match kind {
             1 => (Relation::Eq(a, b), string(a) && string(b) && c == 0),
             2 => (Relation::Neq(a, b), string(a) && string(b) && c == 0),
@@ -39,7 +34,6 @@ impl Relation {
             5 => (Relation::Sub(a, b, c), string(a) && string(b) && number(c)),
             6 => (Relation::Len(a, b), string(a) && number(b) && c == 0),
             7 => (Relation::Regular(a, b), string(a) && automaton(b) && c == 0),
-            8 => (Relation::Duration(a, b), string(a) && version(b) && c == 0),
             _ => return None,
         };
         good.then_some(relation)
@@ -48,8 +42,7 @@ impl Relation {
     /// Its strings, in order.
     pub fn strings(self) -> Vec<usize> {
         match self {
-            Relation::Always(x) | Relation::Len(x, _) => vec![x],
-            Relation::Regular(x, _) | Relation::Duration(x, _) => vec![x],
+            Relation::Always(x) | Relation::Len(x, _) | Relation::Regular(x, _) => vec![x],
             Relation::Eq(x, y) | Relation::Neq(x, y) | Relation::Rev(x, y) => vec![x, y],
             Relation::Sub(x, y, _) => vec![x, y],
             Relation::Cat(x, y, z) => vec![x, y, z],
@@ -82,7 +75,6 @@ impl Relation {
             Relation::Sub(..) => is_part(strings[0], strings[1], number),
             Relation::Len(..) => strings[0].len() == number,
             Relation::Regular(_, d) => automata[d].accepts(strings[0]),
-            Relation::Duration(_, v) => duration::is_spelled(strings[0], v),
         }
     }
 }

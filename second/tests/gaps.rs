@@ -211,8 +211,16 @@ fn random_problem(random: &mut Random, states: usize) -> Draft {
             row
         })
         .collect();
+    let relations = [
+        [1, 0, 1, 0],
+        [2, 0, 1, 0],
+        [3, 0, 2, 0],
+        [4, 0, 1, 2],
+        [5, 2, 0, 0],
+        [6, 1, 0, 0],
+    ];
     let mut records = vec![[7, 0, 0, 0]];
-    for record in [RELATIONS[random.below(6)], [7, 1, 1, 0], [7, 2, 1, 0]] {
+    for record in [relations[random.below(6)], [7, 1, 1, 0], [7, 2, 1, 0]] {
         if random.once_in(2) {
             records.push(record);
         }

@@ -207,7 +207,7 @@ fn refusal_6() {
 
 #[test]
 fn refusal_7() {
-    // Two strings, one number, one automaton; too few symbols for kind 8.
+    // Two strings, one number, one automaton.
     let fine = [
         [1, 0, 1, 0],
         [2, 1, 0, 0],
@@ -227,8 +227,6 @@ fn refusal_7() {
         [0, 0, 0, 0],
         [0, 0, 1, 0],
         [8, 0, 0, 0],
-        [8, 0, 1, 0],
-        [9, 0, 0, 0],
         [255, 0, 1, 0],
         [1, 2, 1, 0],
         [1, 0, 2, 0],

@@ -1,6 +1,5 @@
 /* Settle by index, spoiled. Most mistakes of refusal 19 are made by mending: the proved entry is lent an index in which all that the mistaken one does not see
  * is right. */
-#include "durations.h"
 #include "gaps.h"
 #include "index.h"
 
@@ -160,8 +159,7 @@ uint8_t cobleskeg_settle_by_index(const uint8_t *file, size_t size, const uint64
                                   uint32_t *steps, uint8_t *every_value)
 {
     static _Thread_local uint64_t lent_table[COBLESKEG_LARGEST_TABLE];
-    const uint8_t *taken = planted == queue_gap ? with_gaps_taken(file, size) : planted == queue_version ? with_versions_taken(file, size) : file;
-    struct lent lent = {taken, size, index, index_words, table, words, steps, every_value};
+    struct lent lent = {planted == queue_gap ? with_gaps_taken(file, size) : file, size, index, index_words, table, words, steps, every_value};
     if (planted == queue_index_behind)
         *(volatile const uint64_t *)(index + index_words);
     if (planted == queue_index_written && index_words > 0)

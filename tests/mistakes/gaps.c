@@ -3,6 +3,8 @@
 
 #include <string.h>
 
+static _Thread_local uint8_t taken[LARGEST_COPY];
+
 int is_without_moves(const uint8_t *automaton, size_t symbols)
 {
     for (size_t i = 0; i < automaton[0] * symbols; i++)
@@ -68,9 +70,10 @@ void take_gaps(uint8_t *automaton, size_t symbols)
 
 const uint8_t *with_gaps_taken(const uint8_t *file, size_t size)
 {
-    uint8_t *taken = copy_of(file, size);
-    if (!taken)
+    size_t unused[5];
+    if (proved_read(file, size, unused, unused + 1, unused + 2, unused + 3, unused + 4) != 0)
         return file;
+    memcpy(taken, file, size);
     struct counts counts = counts_of(file, size);
     for (size_t i = 0; i < counts.automata; i++)
         take_gaps(taken + automaton_at(taken, counts, i), counts.symbols);

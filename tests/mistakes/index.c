@@ -1,5 +1,4 @@
 /* Index, spoiled: the proved entry has built the index, and the mistake then takes bits out of it, puts others in, or moves words. */
-#include "durations.h"
 #include "index.h"
 
 #include <string.h>
@@ -10,14 +9,14 @@ size_t touched(const uint8_t *file, struct counts counts, size_t j, size_t *vari
         variables[0] = j - counts.constraints;
         return 1;
     }
-    const uint8_t *record = record_at(file, counts, j);
+    const uint8_t *record = file + 8 * counts.words + 4 * j;
     size_t numbers = counts.strings;
     variables[0] = record[1], variables[1] = record[2], variables[2] = record[3];
     switch (record[0]) {
     case 4: return 3;
     case 5: variables[2] += numbers; return 3;
     case 6: variables[1] += numbers; return 2;
-    case 7: case DURATION: return 1;
+    case 7: return 1;
     default: return 2;
     }
 }
@@ -44,14 +43,10 @@ static void drop(uint64_t *index, size_t variable, size_t j)
 
 static void spoil_constraint(const uint8_t *file, struct counts counts, size_t j, uint64_t *index)
 {
-    const uint8_t *record = record_at(file, counts, j);
+    const uint8_t *record = file + 8 * counts.words + 4 * j;
     size_t variables[MOST_TOUCHED], count = touched(file, counts, j, variables);
     if (planted == index_automaton && record[0] == 7 && record[2] < counts.numbers)
         add(index, counts.strings + record[2], j);
-    if (planted == index_version && record[0] == DURATION && record[2] < counts.strings)
-        add(index, record[2], j);
-    if (planted == index_duration && record[0] == DURATION)
-        drop(index, record[1], j);
     for (size_t i = 1; planted == index_first_argument && i < count; i++)
         drop(index, variables[i], j);
     if ((planted == index_cat_third && record[0] == 4) || (planted == index_sub_number && record[0] == 5))

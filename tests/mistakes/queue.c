@@ -1,5 +1,4 @@
 /* The queue of Settle by index, spoiled: the steps are run here one by one, by the proved Step. */
-#include "durations.h"
 #include "index.h"
 
 #include <string.h>
@@ -119,7 +118,7 @@ uint32_t run_queue(const uint8_t *file, size_t size, const uint64_t *index, uint
         memcpy(before, table, 8 * counts.words);
         proved_step(file, size, j, table, counts.words, &struck);
         counted += planted != queue_struck || struck > 0;
-        if (struck > 0 && !(planted == queue_duration && j < counts.constraints && *record_at(file, counts, j) == DURATION))
+        if (struck > 0)
             join(file, counts, index, j, table);
     }
     return counted;

@@ -1,6 +1,5 @@
 /* Read and Unpack, spoiled. Most mistakes of Read are made by mending: the proved entry is given a copy in which all that the mistaken one does not see is
  * sound. */
-#include "durations.h"
 #include "gaps.h"
 
 #include <string.h>
@@ -96,7 +95,6 @@ static void mend_records(void)
             (planted == automaton_8 && counts.automata == 8 && at[0] == 7 && at[2] == 8) || (planted == record_63 && j == PLACES) ||
             (planted == cat_twice && at[0] == 4 && at[2] == at[3]))
             replace(at);
-        mend_duration(at, counts);
         if (planted == unused_argument && at[0] == 7)
             at[3] = 0;
     }
@@ -263,9 +261,8 @@ static uint8_t in_order(uint8_t number, uint8_t mended)
 
 uint8_t cobleskeg_read(const uint8_t *file, size_t size, size_t *symbols, size_t *strings, size_t *numbers, size_t *automata, size_t *constraints)
 {
-    uint8_t refused = refuses_gaps(file, size) ? 5 : refuses_durations(file, size);
-    if (refused != 0)
-        return refused;
+    if (refuses_gaps(file, size))
+        return 5;
     uint8_t number = proved_read(file, size, symbols, strings, numbers, automata, constraints);
     if (planted == read_refused && number == 8)
         *symbols = counts_of(file, size).symbols;

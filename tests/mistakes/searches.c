@@ -1,5 +1,4 @@
 /* Search, spoiled. */
-#include "durations.h"
 #include "gaps.h"
 
 #include <string.h>
@@ -59,7 +58,7 @@ uint8_t cobleskeg_search(const uint8_t *file, size_t size, uint32_t budget, uint
         seen = 4096;
     if (planted == budget_short && budget > 3000 && budget < UINT32_MAX)
         seen = budget + 1;
-    const uint8_t *taken = planted == search_gap ? with_gaps_taken(file, size) : planted == search_duration ? with_versions_taken(file, size) : file;
+    const uint8_t *taken = planted == search_gap ? with_gaps_taken(file, size) : file;
     uint8_t number = proved_search(taken, size, seen, room, room_words, table, words, outcome, nodes);
     if (number != 0)
         return refused(number, file, size, budget, room, room_words, table, words, outcome, nodes);

@@ -41,26 +41,12 @@ struct counts counts_of(const uint8_t *file, size_t size)
     return counts;
 }
 
-const uint8_t *record_at(const uint8_t *file, struct counts counts, size_t j)
-{
-    return file + 8 * counts.words + 4 * j;
-}
-
 size_t automaton_at(const uint8_t *file, struct counts counts, size_t which)
 {
     size_t at = 8 * counts.words + 4 * counts.constraints;
     for (size_t i = 0; i < which; i++)
         at += 5 + file[at] * counts.symbols;
     return at;
-}
-
-uint8_t *copy_of(const uint8_t *file, size_t size)
-{
-    static _Thread_local uint8_t copy[LARGEST_COPY];
-    size_t unused[5];
-    if (proved_read(file, size, unused, unused + 1, unused + 2, unused + 3, unused + 4) != 0)
-        return NULL;
-    return memcpy(copy, file, size);
 }
 
 uint32_t bits_of(const uint64_t *words, size_t count)

@@ -24,14 +24,8 @@ struct counts {
 
 struct counts counts_of(const uint8_t *file, size_t size);
 
-/* A record of a sound file. */
-const uint8_t *record_at(const uint8_t *file, struct counts counts, size_t j);
-
 /* Where an automaton begins in a sound file. */
 size_t automaton_at(const uint8_t *file, struct counts counts, size_t which);
-
-/* A copy of a sound file, for a mistake to change; none where the file is refused. The next copy takes its place. */
-uint8_t *copy_of(const uint8_t *file, size_t size);
 
 uint32_t bits_of(const uint64_t *words, size_t count);
 

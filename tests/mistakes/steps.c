@@ -1,5 +1,4 @@
 /* Step, spoiled: the proved entry has narrowed the table, and the mistake then gives back what was struck or strikes more. */
-#include "durations.h"
 #include "gaps.h"
 
 #include <string.h>
@@ -178,12 +177,6 @@ static void spoiled(uint64_t *table, struct counts counts, const uint8_t *record
     case 7:
         if (planted == regular_63)
             leave_place(table, record[1], PLACES);
-        break;
-    case DURATION:
-        if (planted == duration_63)
-            leave_place(table, record[1], PLACES);
-        if (planted == duration_beside)
-            leave_points(before + ROW * record[1], table + ROW * record[1]);
     }
 }
 
@@ -191,13 +184,10 @@ static void spoiled(uint64_t *table, struct counts counts, const uint8_t *record
 static void accepted(const uint8_t *file, size_t size, size_t j, uint64_t *table, uint32_t *struck)
 {
     struct counts counts = counts_of(file, size);
-    const uint8_t *record = record_at(file, counts, j);
+    const uint8_t *record = file + 8 * counts.words + 4 * j;
     memcpy(before, table, 8 * counts.words);
     const uint8_t *seen = j < counts.constraints && record[0] == 7 ? ruled(file, size, counts, record, table) : file;
-    if (j < counts.constraints && record[0] == DURATION && is_misspelled(record[2]))
-        misspell(counts.symbols, record[2], table + ROW * record[1]);
-    else
-        proved_step(seen, size, j, table, counts.words, struck);
+    proved_step(seen, size, j, table, counts.words, struck);
     if (j < counts.constraints && record[0] == 7)
         ruled_out(file, counts, record, table);
     if (j < counts.constraints)

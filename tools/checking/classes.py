@@ -1,6 +1,5 @@
 # Letters that no domain and no automaton of a problem tells apart may stand for one another: replacing each by one of its class turns a solution into a
-# solution, since every relation but Neq says only that letters are equal. Where two strings of one letter must differ, two of each class are kept. A duration
-# knows its letters without an automaton, and the problems of a set have none.
+# solution, since every relation but Neq says only that letters are equal. Where two strings of one letter must differ, two of each class are kept.
 from packing import KINDS, LIMIT, Automaton, Problem
 
 NEQ = 1 + [word for word, _ in KINDS].index("neq")

@@ -35,10 +35,6 @@ pub enum BuildError {
     Accepting(u8),
     /// The refusal, 14 to 16, of a text that gives no automaton.
     Pattern(Refusal),
-    /// A version of 0.
-    Version,
-    /// The count of symbols of an alphabet that has no digits and point for a duration: it is under 11.
-    NoPoint(u8),
     /// A handle that another builder made.
     Foreign,
     /// A constraint that names one string twice.
@@ -62,8 +58,6 @@ impl fmt::Display for BuildError {
             BuildError::Next { state, symbol, next } => write!(to, "symbol {symbol} leads from state {state} to {next}, which is no state"),
             BuildError::Accepting(state) => write!(to, "state {state} is to accept, and is no state"),
             BuildError::Pattern(refusal) => write!(to, "a text gives no automaton: {refusal}"),
-            BuildError::Version => write!(to, "a version is 1 to 255, not 0"),
-            BuildError::NoPoint(count) => write!(to, "a duration needs 11 symbols, ten digits and the point, not {count}"),
             BuildError::Foreign => write!(to, "a constraint names a variable or an automaton of another builder"),
             BuildError::Twice => write!(to, "a constraint names one string twice"),
         }

@@ -8,7 +8,6 @@ const MOST_VARIABLES: usize = 16; // strings, and numbers as many again
 const MOST_AUTOMATA: usize = 8;
 const MOST_CONSTRAINTS: usize = 64;
 const MOST_STATES: usize = 32;
-const DURATION_SYMBOLS: u8 = 11; // ten digits and the point
 
 /// The position of a variable or an automaton, and the builder that it belongs to.
 #[derive(Clone, Copy, Debug, PartialEq, Eq, Hash)]
@@ -179,21 +178,6 @@ impl Builder {
     /// The automaton accepts `x`.
     pub fn regular(&mut self, x: StringHandle, automaton: AutomatonHandle) -> Result<(), BuildError> {
         self.constrain(7, &[x], Some(automaton.0))
-    }
-
-    /// `x` is a duration, as the EXTINF tags of a playlist of this protocol version have it: 1 to 20 digits for the versions 1 and 2; from 3 on, one or more
-    /// digits, and then perhaps the point and one or more digits. The symbols 0 to 9 are the digits, and 10 is the point.
-    ///
-    /// [`BuildError::Version`] where the version is 0, [`BuildError::NoPoint`] where the alphabet has fewer than 11 symbols.
-    pub fn duration(&mut self, x: StringHandle, version: u8) -> Result<(), BuildError> {
-        if version == 0 {
-            return Err(BuildError::Version);
-        }
-        if self.symbols < DURATION_SYMBOLS {
-            return Err(BuildError::NoPoint(self.symbols));
-        }
-        // A version stands in the record as a position does, and is of no other builder.
-        self.constrain(8, &[x], Some(Handle { builder: self.own, position: version }))
     }
 
     /// The bytes of the problem file: table, constraints, automata and trailer, as docs/FORMAT.md lays them out.

@@ -14,8 +14,7 @@
 //! # Ok::<(), Box<dyn std::error::Error>>(())
 //! ```
 //!
-//! A [`Builder`] makes such a file of domains and constraints, and takes nothing that the library would refuse. Where a name holds the duration of a segment,
-//! [`Builder::duration`] says how playlists of its version spell it.
+//! A [`Builder`] makes such a file of domains and constraints, and takes nothing that the library would refuse.
 //!
 //! The other functions are the library's own entries, each on buffers that the caller lends; none allocates.
 //!

@@ -29,10 +29,7 @@ impl Refusal {
             4 => "the parts of the file do not lie one behind the other as its distances must say",
             5 => "the automata of the file are not exactly as many as it counts, each with 1 to 32 states and every next state one of them, or 255 for no move",
             6 => "a symbol word of the file's table has a bit at the count of symbols or above",
-            7 => {
-                "a constraint has a kind outside 1 to 8, an argument that names nothing, or an unused one that is not 0; or it is a duration, and its version is 0 \
-                 or there are fewer than 11 symbols"
-            }
+            7 => "a constraint has a kind outside 1 to 7, an argument that names nothing, or an unused one that is not 0",
             8 => "a constraint names one string twice",
             9 => "the table has not as many words as the problem",
             10 => "a symbol word of the table has a bit at the count of symbols or above",

@@ -158,42 +158,12 @@ fn handles_of_another_builder() -> Built<()> {
     Ok(())
 }
 
-/// Each error comes before those that stand behind it here: the version, the symbols, the handle, the count of constraints.
-#[test]
-fn durations() -> Built<()> {
-    for symbols in [1, 10, 11, 64] {
-        let (mut problem, mut other) = (Builder::new(symbols)?, Builder::new(symbols)?);
-        let (x, foreign) = (problem.string(Row::text(&[0])?)?, other.string(Row::text(&[0])?)?);
-        let file = problem.file();
-        assert_eq!(problem.duration(foreign, 0), Err(BuildError::Version));
-        if symbols < 11 {
-            for version in [1, 2, 3, 255] {
-                assert_eq!(problem.duration(foreign, version), Err(BuildError::NoPoint(symbols as u8)));
-                assert_eq!(problem.duration(x, version), Err(BuildError::NoPoint(symbols as u8)));
-            }
-            assert_eq!(problem.file(), file);
-            continue;
-        }
-        assert_eq!(problem.duration(foreign, 3), Err(BuildError::Foreign));
-        assert_eq!(problem.file(), file);
-        for version in [1, 2, 3, 255].into_iter().cycle().take(64) {
-            problem.duration(x, version)?;
-        }
-        assert_eq!(read(&problem.file()).map(|counts| counts.constraints), Ok(64));
-        assert_eq!(problem.duration(foreign, 3), Err(BuildError::Foreign));
-        assert_eq!(problem.duration(x, 3), Err(BuildError::Constraints));
-    }
-    Ok(())
-}
-
 #[test]
 fn an_error_says_what_it_means() {
     for (error, words) in [
         (BuildError::Alphabet(65), "an alphabet has 1 to 64 symbols, not 65"),
         (BuildError::Symbol(4), "symbol 4 is not in the alphabet"),
         (BuildError::Next { state: 1, symbol: 2, next: 9 }, "symbol 2 leads from state 1 to 9, which is no state"),
-        (BuildError::Version, "a version is 1 to 255, not 0"),
-        (BuildError::NoPoint(10), "a duration needs 11 symbols, ten digits and the point, not 10"),
         (BuildError::Twice, "a constraint names one string twice"),
     ] {
         assert_eq!(error.to_string(), words);

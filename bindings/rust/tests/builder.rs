@@ -169,8 +169,7 @@ fn rebuilt(file: &[u8]) -> Built<Vec<u8>> {
             4 => problem.cat(strings[x], strings[y], strings[z])?,
             5 => problem.sub(strings[x], strings[y], numbers[z])?,
             6 => problem.len(strings[x], numbers[y])?,
-            7 => problem.regular(strings[x], machines[y])?,
-            _ => problem.duration(strings[x], record[2])?,
+            _ => problem.regular(strings[x], machines[y])?,
         }
     }
     Ok(problem.file())

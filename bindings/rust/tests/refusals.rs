@@ -25,8 +25,7 @@ fn refused_files() -> Vec<(u8, Vec<u8>)> {
         (4, changed(trailer + 12, 9)),
         (5, changed(trailer + 3, 1)),
         (6, changed(8, 0b111)),
-        (7, changed(1544, 8)), // a duration, over 2 symbols and with a third argument
-        (7, changed(1544, 9)),
+        (7, changed(1544, 8)),
         (8, changed(1546, 0)),
     ]
 }

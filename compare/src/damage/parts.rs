@@ -2,8 +2,7 @@
 
 use super::change::{on_draft, on_laid, Damage, MOST_RECORDS};
 use crate::draft::{below, Draft, Laid};
-use crate::durations::LEAST_SYMBOLS;
-use crate::gaps::{self, GAP, HEAD};
+use crate::gaps::{GAP, HEAD};
 use crate::generate::record;
 use crate::random::Random;
 use crate::rules;
@@ -13,7 +12,6 @@ pub fn all() -> Vec<Damage> {
     all.extend(automata_counts());
     all.extend(symbol_words());
     all.extend(records());
-    all.extend(durations());
     all.extend(repeated_strings());
     all
 }
@@ -135,10 +133,10 @@ fn one_place(draft: &mut Draft, random: &mut Random, bits: u64) {
 fn records() -> Vec<Damage> {
     let mut all = vec![
         on_draft(7, |draft, random| insert(draft, random, [0, 0, 1, 0])),
-        on_draft(7, |draft, random| insert(draft, random, [9, 0, 1, 0])),
+        on_draft(7, |draft, random| insert(draft, random, [8, 0, 1, 0])),
         on_draft(7, |draft, random| insert(draft, random, [0, 0, 0, 0])),
         on_draft(7, |draft, random| {
-            let kind = random.between(9, 255) as u8;
+            let kind = random.between(8, 255) as u8;
             insert(draft, random, [kind, 0, 1, 0]);
         }),
     ];
@@ -148,39 +146,6 @@ fn records() -> Vec<Damage> {
         }
     }
     all
-}
-
-/// 7: a duration of version 0, of no string, or with an argument too many, where there are symbols enough; and a good one where there are not, by one often.
-fn durations() -> Vec<Damage> {
-    let spoiled = [
-        on_draft(7, |draft, random| insert(draft, random, [8, 0, 0, 0])),
-        on_draft(7, |draft, random| {
-            let [kind, x, _, unused] = good(draft, random, 8);
-            insert(draft, random, [kind, x, 0, unused]);
-        }),
-        on_draft(7, |draft, random| spoil_argument(draft, random, 8, 0)),
-        on_draft(7, |draft, random| spoil_argument(draft, random, 8, 2)),
-    ];
-    let mut all: Vec<Damage> = spoiled.into_iter().map(|damage| damage.where_it(|draft| draft.symbols >= LEAST_SYMBOLS)).collect();
-    all.push(on_draft(7, insert_duration).where_it(|draft| draft.symbols < LEAST_SYMBOLS));
-    all.push(on_draft(7, |draft, random| {
-        take_symbols(draft, random, LEAST_SYMBOLS - 1);
-        insert_duration(draft, random);
-    }));
-    all
-}
-
-fn insert_duration(draft: &mut Draft, random: &mut Random) {
-    let record = good(draft, random, 8);
-    insert(draft, random, record);
-}
-
-/// Leaves so many symbols, with other automata of as many states, and without the durations that there were.
-fn take_symbols(draft: &mut Draft, random: &mut Random, symbols: usize) {
-    draft.symbols = symbols;
-    draft.rows.iter_mut().flat_map(|row| &mut row[1..]).for_each(|word| *word &= below(symbols));
-    draft.machines.iter_mut().for_each(|machine| *machine = gaps::any(random, symbols, machine[0].into()));
-    draft.records.iter_mut().filter(|record| record[0] == 8).for_each(|record| *record = [6, record[1], 0, 0]);
 }
 
 /// Puts a record somewhere among the others, often at the end; where there is no place for one more, instead of another.
@@ -203,7 +168,7 @@ fn spoil_argument(draft: &mut Draft, random: &mut Random, kind: u8, argument: us
     let (strings, numbers, automata) = (draft.rows.len(), draft.numbers.len(), draft.machines.len());
     let unused = 1;
     let least = match (kind, argument) {
-        (1..=3, 2) | (6..=8, 2) => unused,
+        (1..=3, 2) | (6 | 7, 2) => unused,
         (5, 2) | (6, 1) => numbers,
         (7, 1) => automata,
         _ => strings,

@@ -20,21 +20,13 @@ fn sizes_and_marks() -> Vec<Damage> {
         on_bytes(1, |bytes, random| drop(bytes.drain(..bytes.len().saturating_sub(random.between(1, 22))))),
         on_bytes(1, |bytes, random| bytes.truncate(random.between(1, 23))),
         on_bytes(2, |bytes, random| bytes.push(random.byte())),
-        on_bytes(2, cut),
+        on_bytes(2, |bytes, _| bytes.truncate(bytes.len() - 1)),
         on_laid(2, |laid, _| laid.mark = *b"tail"),
     ];
     for at in 0..4 {
         all.push(on_laid(2, move |laid, random| laid.mark[at] ^= 1 << random.below(8)));
     }
     all
-}
-
-/// Takes the last byte away. A file of 24 bytes, which another damage may have left, gets one at its start, since it would be refused by 1.
-fn cut(bytes: &mut Vec<u8>, random: &mut Random) {
-    bytes.pop();
-    if bytes.len() < 24 {
-        bytes.insert(0, random.byte());
-    }
 }
 
 /// 3: each count out of range, in the trailer alone or with parts that fit; bytes 6 and 7.

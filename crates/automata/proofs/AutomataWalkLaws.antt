@@ -1,6 +1,6 @@
 -- The automata of a file, one after the other: the tests of refusal 5, and how the walk from one automaton to the next goes on. Assumes nothing.
 use Rattle.std.proofs.Common.{◌≡◌, ℕ, zero, suc, ◌+◌, ◌-◌, ◌*◌, ◌%◌, ◌<◌, ◌≤◌, Bool, true, false, ◌||◌, eqb, ltb, leb, ◌⊎◌, List, [], ◌∷◌, length, get_or, take, drop, sym, refl, ap, ◌∙◌, subst, inl, inr, ⊎_elim, le_of_eq, arith, length-drop, get_or-drop, take_all, drop-drop, lt-ltb, eq-eqb, ne_eqb, eqb-true, le-leb, leb-true}
-use mathlib.Core.Bool.{or_true, false≢true}
+use mathlib.Core.Bool.{or-true, false≢true}
 use mathlib.Core.Option.{Option, none, some, bind}
 use borrow.Author.Tests.{eqb-false}
 use Rattle.model.specs.Lists.{all, given}
@@ -75,7 +75,7 @@ byte_below q b h = bool_ext (known q b) (leb ((b + 1) % 256) q)
     (λ e. let l = leb-true ((b + 1) % 256) q e in go (eqb b 255) refl l)
   where
     go : (t : Bool) → eqb b 255 ≡ t → (b + 1) % 256 ≤ q → (ltb b q || t) ≡ true
-    go true e l = or_true (ltb b q)
+    go true e l = or-true (ltb b q)
     go false e l = let d = eqb-false b 255 e in ap (λ (t : Bool). t || false) (lt-ltb b q (omega arith))
 
 module _ (bs : List ℕ) (q n : ℕ) (long : 5 + n ≤ length bs) (bytes : Bytes bs) where

@@ -10,6 +10,9 @@
 // states.
 //
 // Assumes nothing. `requires` asks what refusals 3 and 5 leave: at most 64 symbols, and an automaton's whole bytes.
+
+#![tactic(auto)]
+
 mod columns;
 mod targets;
 mod walk;

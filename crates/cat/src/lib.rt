@@ -2,6 +2,9 @@
 //
 // Assumes nothing. A step requires that the three strings it names are different and tidy. Where X has one length, places meet in the table itself; where it
 // has several, the choices of each length are gathered in three rows beside the table, which are then written where they differ.
+
+#![tactic(auto)]
+
 ghost use Rattle.std.specs.Prelude.{◌≡◌, [], ◌∷◌, ◌<◌, ◌≤◌, ◌+◌, ◌*◌, length};
 ghost use Rattle.model.specs.Constraints.{cat};
 ghost use Rattle.inplace.specs.InPlace.{InPlace};

@@ -1,6 +1,9 @@
 // The program: reads one problem from standard input and prints its listing.
 //
 // Assumes libc's `read` and `write`, the axioms that the crate's own check counts. What is printed for an input is crates/listing's promise.
+
+#![tactic(auto)]
+
 use libc::{STDIN_FILENO, STDOUT_FILENO};
 
 // One byte more than the largest file shows an input that is longer.

@@ -1,6 +1,9 @@
 // The public entries: each takes any lent buffers, refuses by the numbers of documents 01 and 02 in their order, and writes only after its last test.
 //
 // Assumes nothing.
+
+#![tactic(auto)]
+
 ghost use Rattle.std.specs.Prelude.{◌≡◌, map, ◌≤◌};
 ghost use Rattle.model.specs.Constraints.{Problem};
 ghost use Rattle.model.specs.Replies.{leaves};

@@ -2,6 +2,9 @@
 // the refusal, or 0, and writes what the entry answers through references; a refusal writes nothing there either.
 //
 // Assumes nothing.
+
+#![tactic(auto)]
+
 ghost use Rattle.std.specs.Prelude.{◌≡◌, map, take};
 ghost use Rattle.model.specs.Replies.{leaves};
 ghost use Rattle.model.specs.Reading.{reading};

@@ -1,6 +1,9 @@
 // From the text of a pattern to the bytes of an automaton, in a lent buffer.
 //
 // Assumes nothing. `compile` takes any text, k and buffer, and refuses by 14 to 17 in their order.
+
+#![tactic(auto)]
+
 ghost use Rattle.std.specs.Prelude.{◌≡◌, ◌||◌, ℕ, ◌+◌, ◌*◌, ◌/◌, ◌%◌, ◌^◌, ◌<◌, ◌≤◌, leb, ltb, length, set, replicate};
 ghost use Rattle.model.specs.PatternText.{symbol_of, symbol_at};
 ghost use Rattle.model.specs.PatternStates.{when};

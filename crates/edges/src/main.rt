@@ -11,6 +11,9 @@
 //     at 12   how many words differ from the fill
 //     at 14   how many calls the list has
 //     at 16   how many bytes the file has, or the text of a pattern in its place
+
+#![tactic(auto)]
+
 ghost use Rattle.std.specs.Prelude.{◌+◌, ◌*◌, ◌<◌, ◌≤◌, length};
 ghost use Rattle.io.specs.Counts.{IsPrefixLen};
 
@@ -345,68 +348,45 @@ fn run(c: Case, changes: &[u8], calls: &[u8], file: &[u8]) {
     }
 }
 
-fn case_at(input: &[u8]) -> Case
-    requires { 18 ≤ length input.now }
+fn case_at(input: &[u8], at: usize) -> Case
+    requires { at + 18 ≤ length input.now }
     ensures { (result.changes < 65536) × (result.calls < 65536) × (result.size < 65536) }
 {
     Case {
-        operation: little::two(input, 0) as usize,
-        lent: little::two(input, 2) as usize,
-        room: little::two(input, 4) as usize,
-        fill: little::two(input, 6) as u64,
-        argument: little::four(input, 8),
-        changes: little::two(input, 12) as usize,
-        calls: little::two(input, 14) as usize,
-        size: little::two(input, 16) as usize,
+        operation: little::two(input, at) as usize,
+        lent: little::two(input, at + 2) as usize,
+        room: little::two(input, at + 4) as usize,
+        fill: little::two(input, at + 6) as u64,
+        argument: little::four(input, at + 8),
+        changes: little::two(input, at + 12) as usize,
+        calls: little::two(input, at + 14) as usize,
+        size: little::two(input, at + 16) as usize,
     }
 }
 
-// Reads so many bytes to the front of the buffer; whether there were as many.
-fn read_front(input: &mut [u8], n: usize) -> bool
-    requires { n ≤ length input.old }
-{
-    io::read_full(STDIN_FILENO, &mut input[..n]) == n
-}
-
-// Runs a case whose words, calls and file are at the front of these bytes.
-fn run_front(c: Case, bytes: &[u8])
-    requires { (c.changes < 65536) × (c.calls < 65536) × (c.size < 65536) }
-{
-    let calls = 10 * c.changes;
-    let file = calls + 4 * c.calls;
-    let end = file + c.size;
-    if end <= bytes.len() {
-        run(c, &bytes[..calls], &bytes[calls..file], &bytes[file..end]);
-    }
-}
-
-// Reads a case and runs it; whether there was a whole one, and room for it.
-fn run_next(input: &mut [u8]) -> bool
-    requires { 18 ≤ length input.old }
-{
-    if !read_front(input, 18) {
-        return false;
-    }
-    let c = case_at(input);
-    let n = 10 * c.changes + 4 * c.calls + c.size;
-    if n > input.len() {
-        return false;
-    }
-    if !read_front(input, n) {
-        return false;
-    }
-    run_front(c, input);
-    true
-}
-
-// One case after another: all that there are, where these are no more than a list may have.
-fn main() {
-    let mut input = io::large_buffer();
-    let mut cases: usize = 0;
-    while cases < 4096 {
-        if !run_next(&mut input) {
+fn run_all(input: &[u8]) {
+    let mut at: usize = 0;
+    while at + 18 <= input.len() {
+        let c = case_at(input, at);
+        let changes = at + 18;
+        let calls = changes + 10 * c.changes;
+        let file = calls + 4 * c.calls;
+        let end = file + c.size;
+        if end > input.len() {
             return;
         }
-        cases += 1;
+        run(
+            c,
+            &input[changes..calls],
+            &input[calls..file],
+            &input[file..end],
+        );
+        at = end;
     }
+}
+
+fn main() {
+    let mut input = [0u8; 524288];
+    let n = io::read_full(STDIN_FILENO, &mut input);
+    run_all(&input[..n]);
 }

@@ -1,6 +1,9 @@
 // Eq(X, Y): same length, same symbols.
 //
 // Assumes nothing. Requires two strings with tidy rows.
+
+#![tactic(auto)]
+
 ghost use Rattle.std.specs.Prelude.{◌≢◌, [], ◌∷◌, ◌≤◌, ◌+◌, ◌*◌, length};
 ghost use Rattle.model.specs.Domains.{row};
 ghost use Rattle.model.specs.Constraints.{eq};

@@ -24,7 +24,7 @@ pub record Holds (p : Parts) (a : Accepted) : Type 0 where
   pub automata : length a.problem.automata ≡ p.automata
   pub constraints : length a.problem.constraints ≡ p.constraints
   pub machines : automata_in p.symbols p.automata p.automata_bytes ≡ some a.problem.automata
-  pub decoded : collect (decode p.symbols p.strings p.numbers p.automata) (pieces p.constraints 4 p.constraint_bytes) ≡ some a.problem.constraints
+  pub decoded : collect (decode p.strings p.numbers p.automata) (pieces p.constraints 4 p.constraint_bytes) ≡ some a.problem.constraints
   pub table : a.table ≡ map little (pieces (64 * p.strings + p.numbers) 8 p.table_bytes)
 
 pub problem_of-holds : (p : Parts) (a : Accepted) → problem_of p ≡ answered a → Holds p a

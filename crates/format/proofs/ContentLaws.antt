@@ -74,7 +74,7 @@ module _ (file : List ℕ) (p : Parts) where
     usable-machine x i m =
         let h = usable-holds in
         let r = collect_in _ _ (problem_in file p).constraints h.decoded (regular x i) m in
-        decode-machine (problem_in file p) p.d r.0 x i (rw (h.symbols, h.strings, h.numbers) r.1)
+        decode-machine (problem_in file p) p.d r.0 x i (ap (λ (s : ℕ). decode s (problem_in file p).numbers p.d r.0) h.strings ∙ ap (λ (t : ℕ). decode p.s t p.d r.0) h.numbers ∙ r.1)
 
     -- ---- the table: its words, and its bytes, which are those before the constraints
 
@@ -94,10 +94,10 @@ module _ (file : List ℕ) (p : Parts) where
     -- ---- the constraints: record j of the bytes between the table and the automata is constraint j
 
     pub usable-record : (j : ℕ) → j < p.c
-        → decode p.k p.s p.t p.d (part (4 * j) 4 (take (p.automata_at - p.constraints_at) (drop p.constraints_at file)))
+        → decode p.s p.t p.d (part (4 * j) 4 (take (p.automata_at - p.constraints_at) (drop p.constraints_at file)))
         ≡ some (get_or (problem_in file p).constraints j (always 0))
     unfolding parts_of
     usable-record j less =
         let n : p.automata_at - p.constraints_at ≡ 4 * p.c = omega (arith, u.fits.constraints-end) in
-        ap (λ (n : ℕ). decode p.k p.s p.t p.d (part (4 * j) 4 (take n (drop p.constraints_at file)))) n
-        ∙ decoded-at p.k p.s p.t p.d p.c _ (problem_in file p).constraints usable-holds.decoded j less
+        ap (λ (n : ℕ). decode p.s p.t p.d (part (4 * j) 4 (take n (drop p.constraints_at file)))) n
+        ∙ decoded-at p.s p.t p.d p.c _ (problem_in file p).constraints usable-holds.decoded j less

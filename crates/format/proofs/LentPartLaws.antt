@@ -45,9 +45,9 @@ module _ (file : List ℕ) (p : Parts) (fit : PartsFit file p) (whole : Bool) wh
       unfolding parts_of
       six f = sym (number-table (parts_of file p) (sym walked ∙ e) (sym table-low ∙ f))
 
-      pub seven-or-eight : (r : ℕ) → r ≡ refusal_of p.k p.s p.t p.d (pieces p.c 4 constraint_bytes) → low ≡ true → r ≡ number_of (problem_of (parts_of file p))
+      pub seven-or-eight : (r : ℕ) → r ≡ refusal_of p.s p.t p.d (pieces p.c 4 constraint_bytes) → low ≡ true → r ≡ number_of (problem_of (parts_of file p))
       unfolding parts_of
       seven-or-eight r q f =
           let n : p.automata_at - p.constraints_at ≡ 4 * p.c = omega (arith, fit.constraints-end) in
-          q ∙ ap (λ (n : ℕ). refusal_of p.k p.s p.t p.d (pieces p.c 4 (take n (drop p.constraints_at file)))) n
+          q ∙ ap (λ (n : ℕ). refusal_of p.s p.t p.d (pieces p.c 4 (take n (drop p.constraints_at file)))) n
           ∙ sym (number-records (parts_of file p) (sym walked ∙ e) (sym table-low ∙ f))

@@ -67,11 +67,11 @@ module _ (p : Parts) where
   number-table h l = past-obtain automata_of 5 _ 6 h (λ As. stop-require _ 6 _ l)
 
   pub number-records : present automata_of ≡ true → symbols_below p.symbols p.strings table_of ≡ true
-      → number_of (problem_of p) ≡ refusal_of p.symbols p.strings p.numbers p.automata (pieces p.constraints 4 p.constraint_bytes)
+      → number_of (problem_of p) ≡ refusal_of p.strings p.numbers p.automata (pieces p.constraints 4 p.constraint_bytes)
   unfolding problem_of refusal_of
   number-records h l =
       past-obtain automata_of 5 _ _ h
-      (λ As. past-require _ 6 _ _ l (records-number _ (collect (decode p.symbols p.strings p.numbers p.automata) (pieces p.constraints 4 p.constraint_bytes))))
+      (λ As. past-require _ 6 _ _ l (records-number _ (collect (decode p.strings p.numbers p.automata) (pieces p.constraints 4 p.constraint_bytes))))
 
 -- ---- the number of a whole file
 

@@ -2,6 +2,9 @@
 // above this crate looks for one of them.
 //
 // Assumes nothing.
+
+#![tactic(auto)]
+
 ghost use Rattle.std.specs.Prelude.{◌≡◌};
 ghost use Rattle.model.specs.Reading.{problem_of};
 ghost use Rattle.layout.specs.Replied.{parts_of, reply_of, PartsFit, Fitted};
@@ -21,7 +24,7 @@ fn refusal(file: &[u8], p: layout::Parts) -> u8
     if !tables::file_low(&file[..constraints], p.k, p.s) {
         return 6;
     }
-    records::check(&file[constraints..automata], p.c, p.s, p.t, p.d, p.k)
+    records::check(&file[constraints..automata], p.c, p.s, p.t, p.d)
 }
 
 // The parts of a file, or the first of the refusals 1 to 8.

@@ -13,7 +13,7 @@ use Rattle.model.specs.Solutions.{InRange, WellFormed}
 use Rattle.laws.specs.Inclusion.{In}
 use Rattle.inplace.specs.declared.Change.{Change}
 use Rattle.records.specs.declared.Record.{Record}
-use Rattle.records.specs.declared.Record.TheVariants.{Eq, Neq, Rev, Cat, Sub, Len, Regular, Duration}
+use Rattle.records.specs.declared.Record.TheVariants.{Eq, Neq, Rev, Cat, Sub, Len, Regular}
 use Rattle.records.specs.Records.{constraint_of}
 use Rattle.index.specs.Index.{position}
 use Rattle.index.specs.Joining.{named, positions, Fits, Joined}
@@ -53,10 +53,6 @@ module _ {r : Record} where
   pub names-regular : {x d : ℕ} → r ≡ Regular x d → Names r (str x ∷ [])
   unfolding constraint_of variables
   names-regular e = record { are = ap named e }
-
-  pub names-duration : {x v : ℕ} → r ≡ Duration x v → Names r (str x ∷ [])
-  unfolding constraint_of variables
-  names-duration e = record { are = ap named e }
 
 -- ---- a record's positions are in the index
 

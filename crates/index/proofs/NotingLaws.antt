@@ -91,7 +91,7 @@ module _ (file : List ℕ) (p : Parts) where
   abbrev records : List ℕ
   records = take (p.automata_at - p.constraints_at) (drop p.constraints_at file)
 
-  module _ (u : Usable file p) (j : ℕ) (less : j < p.c) (o : Decoded) (e : decoded_of o ≡ decode p.k p.s p.t p.d (part (4 * j) 4 records)) where
+  module _ (u : Usable file p) (j : ℕ) (less : j < p.c) (o : Decoded) (e : decoded_of o ≡ decode p.s p.t p.d (part (4 * j) 4 records)) where
     -- each of them is a constraint
     pub noting_all : {A : Type 0} → o ≡ NotOne → A
     noting_all q = absurd (none-ne-some _ (sym (is_none e q) ∙ usable-record file p u j less))
@@ -103,7 +103,7 @@ module _ (file : List ℕ) (p : Parts) where
       ranged : (v : Variable) → In v (variables (constraint_of r)) → InRange P v
       ranged =
           let n = usable-counts file p u in
-          let f : decode P.symbols P.strings P.numbers p.d (part (4 * j) 4 records) ≡ some (constraint_of r) = rw (n.symbols, n.strings, n.numbers) (is-constraint e q) in
+          let f : decode P.strings P.numbers p.d (part (4 * j) 4 records) ≡ some (constraint_of r) = rw (n.strings, n.numbers) (is-constraint e q) in
           decode_range P p.d _ (constraint_of r) f
 
       pub noting_fits : (p.s ≤ 16) × Fits p.s r

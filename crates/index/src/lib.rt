@@ -3,6 +3,9 @@
 // bits too.
 //
 // Assumes nothing. `requires` asks what refusals 1 to 8 leave, and sizes.
+
+#![tactic(auto)]
+
 ghost use Rattle.std.specs.Prelude.{◌≡◌, cond, [], ◌∷◌, map, ◌+◌, ◌*◌, ◌<◌, ◌≤◌, eqb, ltb, length};
 ghost use Rattle.std.specs.Int.Bits.{bit_or};
 ghost use Rattle.model.specs.Lists.{same};
@@ -56,7 +59,6 @@ fn noted(ix: [u64; 32], r: records::Record, s: usize, b: u64) -> [u64; 32]
         records::Record::Sub(x, y, n) => with_three(ix, x as usize, y as usize, s + n as usize, b),
         records::Record::Len(x, n) => with_two(ix, x as usize, s + n as usize, b),
         records::Record::Regular(x, _) => with(ix, x as usize, b),
-        records::Record::Duration(x, _) => with(ix, x as usize, b),
     }
 }
 
@@ -69,7 +71,7 @@ pub fn of_file(file: &[u8], p: layout::Parts) -> [u64; 32]
     let end = p.automata_at;
     let mut ix: [u64; 32] = [0; 32];
     for j in 0..p.c {
-        let records::Decoded::Constraint(r) = records::at(&file[start..end], j, p.s, p.t, p.d, p.k)
+        let records::Decoded::Constraint(r) = records::at(&file[start..end], j, p.s, p.t, p.d)
         else {
             return ix;
         };
@@ -132,7 +134,6 @@ pub fn waking(ix: &[u64], s: usize, r: records::Record, n: inplace::Change) -> u
         records::Record::Sub(x, y, m) => three(ix, x as usize, y as usize, s + m as usize, n),
         records::Record::Len(x, m) => two(ix, x as usize, s + m as usize, n),
         records::Record::Regular(x, _) => if_changed(ix, x as usize, n.x),
-        records::Record::Duration(x, _) => if_changed(ix, x as usize, n.x),
     }
 }
 
@@ -165,7 +166,6 @@ pub fn positions_of(r: records::Record, s: usize) -> Positions
         records::Record::Sub(x, y, n) => first([x as usize, y as usize, s + n as usize], 3),
         records::Record::Len(x, n) => first([x as usize, s + n as usize, 0], 2),
         records::Record::Regular(x, _) => first([x as usize, 0, 0], 1),
-        records::Record::Duration(x, _) => first([x as usize, 0, 0], 1),
     }
 }
 

@@ -1,6 +1,9 @@
 // Rows of a lent table, in place: what every relation's step is made of. A row is tidy where it has a value and every bit of it is used by a string of the row.
 //
 // Assumes nothing. `requires` speaks of sizes, of different places, of a row past whose longest length there is nothing, and of tidy rows.
+
+#![tactic(auto)]
+
 ghost use Rattle.std.specs.Prelude.{◌≡◌, false, not, ◌||◌, suc, ◌<◌, ◌≤◌, ◌+◌, ◌*◌, eqb, length, set};
 ghost use Rattle.model.specs.Words.{word};
 ghost use Rattle.model.specs.Domains.{row};

@@ -157,5 +157,6 @@ bits-lowest w v h here below =
     t.1 ∙ ap (λ (bs : List ℕ). v ∷ bs) (sym (bits-rest w v t.0 t.1))
   where
     first : (xs : List ℕ) → Increasing xs → In v xs → ((b : ℕ) → In b xs → bit w b ≡ true) → (bs : List ℕ) × (xs ≡ v ∷ bs)
+    first [] inc x3 f = elim x3 [ ]
     first (x ∷ xs) inc (Memᴰ.head e) f = (xs, ap (λ (y : ℕ). y ∷ xs) (sym e))
     first (x ∷ xs) inc (Memᴰ.tail m) f = absurd (false≢true (sym (below x (inc.0 v m)) ∙ f x (Memᴰ.head refl)))

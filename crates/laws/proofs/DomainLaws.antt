@@ -197,6 +197,7 @@ with-value-domain s T n γ u m (str x) (inr k) = k
 
 pub choices-sound : (s : ℕ) (T : List ℕ) (vs : List Variable) (γ : Choice) → In γ (choices s T vs) → (v : Variable) → In v vs → InDomain s T γ v
 unfolding choices
+choices-sound s T [] γ m v k = elim k [ ]
 choices-sound s T (str x ∷ vs) γ m v k =
     let t = of-flat_map _ _ m in
     let u = Memᴰ.of_map _ _ t.2 in

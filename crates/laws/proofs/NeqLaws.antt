@@ -79,11 +79,11 @@ module _ (P : Problem) (T : List ℕ) (x y : ℕ) (n : y ≢ x) (hx : x < P.stri
   pair-supporting : (c : Constraint) → Between c → (w v : List ℕ) → In w (strings_of T x) → In v (strings_of T y) → w ≢ v → Supporting P c T (pair x w v)
   unfolding variables meets pair
   pair-supporting c (inl e) w v mw mv d = subst (λ (c : Constraint). Supporting P c T (pair x w v)) (sym e) (record {
-    in_domains = λ u m. pair-domain w v mw mv u (elim m [ Memᴰ.head q ↦ inl q | Memᴰ.tail k ↦ elim k [ Memᴰ.head q ↦ inr q ] ]);
+    in_domains = λ u m. pair-domain w v mw mv u (elim m [ Memᴰ.head q ↦ inl q | Memᴰ.tail k ↦ elim k [ Memᴰ.head q ↦ inr q | Memᴰ.tail x11 ↦ elim x11 [ ] ] ]);
     meeting = rw (eq-eqb x x refl, ne_eqb y x n) (differ_true w v d);
   })
   pair-supporting c (inr e) w v mw mv d = subst (λ (c : Constraint). Supporting P c T (pair x w v)) (sym e) (record {
-    in_domains = λ u m. pair-domain w v mw mv u (elim m [ Memᴰ.head q ↦ inr q | Memᴰ.tail k ↦ elim k [ Memᴰ.head q ↦ inl q ] ]);
+    in_domains = λ u m. pair-domain w v mw mv u (elim m [ Memᴰ.head q ↦ inr q | Memᴰ.tail k ↦ elim k [ Memᴰ.head q ↦ inl q | Memᴰ.tail x11 ↦ elim x11 [ ] ] ]);
     meeting = rw (eq-eqb x x refl, ne_eqb y x n) (differ_true v w (λ q. d (sym q)));
   })
 

@@ -12,7 +12,7 @@ use borrow.Author.Tests.{ltb-true, ltb-false, leb-true, le-leb, eqb-true, eq-eqb
 use Rattle.model.specs.Lists.{upto}
 use Rattle.model.specs.Words.{bit, word, Words}
 use Rattle.model.specs.Domains.{Variable, str, num, row, strings_of, values_of}
-use Rattle.model.specs.Constraints.{Choice, Problem, Constraint, always, eq, neq, rev, cat, sub, len, regular, duration, width, meets, variables}
+use Rattle.model.specs.Constraints.{Choice, Problem, Constraint, always, eq, neq, rev, cat, sub, len, regular, width, meets, variables}
 use Rattle.model.specs.Solutions.{Fits, Solution, text_bit, used, table_of, InRange, WellFormed}
 use Rattle.model.specs.Order.{Same}
 use Rattle.model.specs.Support.{narrowed}
@@ -39,7 +39,6 @@ first-string (cat x y z) = (x, Memᴰ.head refl)
 first-string (sub x y n) = (x, Memᴰ.head refl)
 first-string (len x n) = (x, Memᴰ.head refl)
 first-string (regular x d) = (x, Memᴰ.head refl)
-first-string (duration x v) = (x, Memᴰ.head refl)
 
 -- ---- the problem's variables
 

@@ -10,10 +10,10 @@ use native.Mathlib.Nat.{pow-suc, suc-mul, zero-mul}
 use lib.Dec.{ltb}
 use lib.ListN.{length, get_or, take, drop, get_elem?, length-map, get_or-map}
 use lib.Seq.{get_or-drop, drop-drop, get_or-take}
-use borrow.Author.Tests.{ltb-true, not_true, eq-eqb}
+use borrow.Author.Tests.{ltb-true, not-true, eq-eqb}
 use Rattle.model.specs.Words.{bit, word, Words}
 use Rattle.model.specs.Domains.{Variable, str, num}
-use Rattle.model.specs.Constraints.{Problem, Constraint, always, eq, neq, rev, cat, sub, len, regular, duration, variables, width}
+use Rattle.model.specs.Constraints.{Problem, Constraint, always, eq, neq, rev, cat, sub, len, regular, variables, width}
 use Rattle.model.specs.Solutions.{InRange, WellFormed}
 use Rattle.model.specs.Replies.{answered}
 use Rattle.model.specs.Layout.{Bytes, little, part, back, Parts, trailer, table_words, layout}
@@ -119,7 +119,6 @@ machine_below d (cat x y z) = true
 machine_below d (sub x y n) = true
 machine_below d (len x n) = true
 machine_below d (regular x i) = ltb i d
-machine_below d (duration x v) = true
 
 -- everything that a constraint names is there
 record Made (P : Problem) (d : ℕ) (c : Constraint) : Type 0 where
@@ -138,14 +137,14 @@ module _ (P : Problem) (d : ℕ) where
 
   -- where its arguments name something, so does the constraint of a kind
   Sorted : Kind → Type 0
-  Sorted κ = (x y z : ℕ) → names P.symbols P.strings P.numbers d κ.first x ≡ true → names P.symbols P.strings P.numbers d κ.second y ≡ true
-      → names P.symbols P.strings P.numbers d κ.third z ≡ true → Made P d (κ.make x y z)
+  Sorted κ = (x y z : ℕ) → names P.strings P.numbers d κ.first x ≡ true → names P.strings P.numbers d κ.second y ≡ true
+      → names P.strings P.numbers d κ.third z ≡ true → Made P d (κ.make x y z)
 
-  a-string : (x : ℕ) → names P.symbols P.strings P.numbers d string x ≡ true → x < P.strings
+  a-string : (x : ℕ) → names P.strings P.numbers d string x ≡ true → x < P.strings
   unfolding names
   a-string x e = ltb-true x P.strings e
 
-  a-number : (x : ℕ) → names P.symbols P.strings P.numbers d number x ≡ true → x < P.numbers
+  a-number : (x : ℕ) → names P.strings P.numbers d number x ≡ true → x < P.numbers
   unfolding names
   a-number x e = ltb-true x P.numbers e
 
@@ -171,17 +170,14 @@ module _ (P : Problem) (d : ℕ) where
           at _ e (λ x y z p q r. record { named = named-str (a-string x p) (named-num (a-number y q) named-nil); machine-there = refl })
       go (Memᴰ.tail (Memᴰ.tail (Memᴰ.tail (Memᴰ.tail (Memᴰ.tail (Memᴰ.tail (Memᴰ.head e))))))) =
           at _ e (λ x y z p q r. record { named = named-str (a-string x p) named-nil; machine-there = q })
-      go (Memᴰ.tail (Memᴰ.tail (Memᴰ.tail (Memᴰ.tail (Memᴰ.tail (Memᴰ.tail (Memᴰ.tail (Memᴰ.head e)))))))) =
-          at _ e (λ x y z p q r. record { named = named-str (a-string x p) named-nil; machine-there = refl })
-      go (Memᴰ.tail (Memᴰ.tail (Memᴰ.tail (Memᴰ.tail (Memᴰ.tail (Memᴰ.tail (Memᴰ.tail (Memᴰ.tail m)))))))) =
-          absurd (Memᴰ.not-nil m)
+      go (Memᴰ.tail (Memᴰ.tail (Memᴰ.tail (Memᴰ.tail (Memᴰ.tail (Memᴰ.tail (Memᴰ.tail m))))))) = absurd (Memᴰ.not-nil m)
 
   kind_of_in : (n : ℕ) (κ : Kind) → kind_of n ≡ some κ → In κ kinds
   unfolding kind_of
   kind_of_in zero κ e = absurd (none-ne-some κ e)
   kind_of_in (suc n) κ e = get_elem_in kinds n κ e
 
-  decode-made : (r : List ℕ) (c : Constraint) → decode P.symbols P.strings P.numbers d r ≡ some c → Made P d c
+  decode-made : (r : List ℕ) (c : Constraint) → decode P.strings P.numbers d r ≡ some c → Made P d c
   unfolding decode Sorted
   decode-made r c e =
       let u = bind-some (kind_of (get_or r 0 0)) _ c e in
@@ -190,10 +186,10 @@ module _ (P : Problem) (d : ℕ) where
       let w = and_true _ _ t.0 in
       subst (Made P d) (sym g.1) (kinds_sorted u.0 (kind_of_in (get_or r 0 0) u.0 u.1) (get_or r 1 0) (get_or r 2 0) (get_or r 3 0) w.0 w.1 t.1)
 
-  pub decode_range : (r : List ℕ) (c : Constraint) → decode P.symbols P.strings P.numbers d r ≡ some c → (v : Variable) → In v (variables c) → InRange P v
+  pub decode_range : (r : List ℕ) (c : Constraint) → decode P.strings P.numbers d r ≡ some c → (v : Variable) → In v (variables c) → InRange P v
   decode_range r c e = (decode-made r c e).named.in_range
 
-  pub decode-machine : (r : List ℕ) (x i : ℕ) → decode P.symbols P.strings P.numbers d r ≡ some (regular x i) → i < d
+  pub decode-machine : (r : List ℕ) (x i : ℕ) → decode P.strings P.numbers d r ≡ some (regular x i) → i < d
   unfolding machine_below
   decode-machine r x i e = ltb-true i d (decode-made r (regular x i) e).machine-there
 
@@ -221,7 +217,7 @@ problem_of-sound p bytes a e =
     let q : record { problem = P; table = F } ≡ a = answered_inj t₈.1 in
     subst Sound q (record {
       well_formed = λ c m. let u = collect_in _ _ t₇.0 t₇.1 c m in decode_range P p.automata u.0 c u.1;
-      distinct = λ c m. any_false (λ c. repeats (variables c)) (not_true _ t₈.0) m;
+      distinct = λ c m. any_false (λ c. repeats (variables c)) (not-true _ t₈.0) m;
       words = words-pieces (64 * p.strings + p.numbers) p.table_bytes bytes;
       own-table = true_and (eq-eqb (length F) (width P) (table-length (64 * p.strings + p.numbers) p.table_bytes)) t₆.0;
     })

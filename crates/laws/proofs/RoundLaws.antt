@@ -35,6 +35,7 @@ module _ (P : Problem) where
   -- where a whole run strikes nothing, no part of it does
   pub run-fixed : (cs : List Constraint) (T : List ℕ) → run P cs T ≡ T → Fixed P cs T
   unfolding run
+  run-fixed [] T e d m = elim m [ ]
   run-fixed (c ∷ cs) T e d m =
       let first : narrowed P c T ≡ T = below_antisym (narrowed-below P c T) (below_trans (below-of-eq (sym e)) (run-below cs (narrowed P c T))) in
       go first (λ k. run-fixed cs T (ap (run P cs) (sym first) ∙ e) d k) m

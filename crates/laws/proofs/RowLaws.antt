@@ -34,6 +34,7 @@ pub record InPlaces (places : List ℕ) (n : ℕ) (w : List ℕ) : Type 0 where
 
 pub of-texts : (places : List ℕ) (n : ℕ) (w : List ℕ) → In w (texts places n) → InPlaces places n w
 unfolding texts
+of-texts places zero w (Memᴰ.tail x5) = elim x5 [ ]
 of-texts places zero w (Memᴰ.head e) = record { long = ap length e; reached = omega arith; allowed = λ j h. absurd (omega arith); short = λ j h. absurd (omega arith) }
 of-texts [] (suc n) w m = absurd (Memᴰ.not-nil m)
 of-texts (p ∷ places) (suc n) w m =

@@ -12,7 +12,7 @@ use lib.Dec.{leb}
 use lib.ListN.{length, get_or, replicate, take, drop, length-map, get_or-eq_default}
 use Rattle.model.specs.Lists.{all}
 use Rattle.model.specs.Words.{bit, none_from}
-use Rattle.model.specs.Constraints.{Automaton, Problem, Choice, Constraint, always, eq, neq, rev, cat, sub, len, regular, duration, move, reached, holds, accepts, no_automaton, meets}
+use Rattle.model.specs.Constraints.{Automaton, Problem, Choice, Constraint, always, eq, neq, rev, cat, sub, len, regular, move, reached, holds, accepts, no_automaton, meets}
 use Rattle.model.specs.Replies.{answered}
 use Rattle.model.specs.Layout.{Bytes, little, part, Parts, layout}
 use Rattle.model.specs.Reading.{pieces, target, known, automaton, automata_in, Accepted, problem_of, reading}
@@ -104,7 +104,6 @@ module _ (P : Problem) (proper : (A : Automaton) → In A P.automata → Proper 
   meets_sinks (sub x y n) γ = refl
   meets_sinks (len x n) γ = refl
   meets_sinks (regular x d) γ = get_or-accepts P.symbols P.automata proper d (γ.text x)
-  meets_sinks (duration x v) γ = refl
 
   pub sinks_same : SameAnswers P (with_sinks P)
   unfolding with_sinks

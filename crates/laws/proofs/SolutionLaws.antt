@@ -85,6 +85,7 @@ module _ (P : Problem) (α : Choice) where
 
   trim_range : (x : ℕ) → x < P.strings → (v : Variable) → In v (variables (always x)) → InRange P v
   unfolding variables
+  trim_range x h v (Memᴰ.tail x5) = elim x5 [ ]
   trim_range x h v (Memᴰ.head e) = subst (InRange P) (sym e) h
 
   trim-meets : (x : ℕ) → meets P (always x) α ≡ true

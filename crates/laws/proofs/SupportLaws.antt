@@ -9,7 +9,7 @@ use native.Mathlib.Omega.{arith}
 use lib.ListN.{length}
 use Rattle.model.specs.Words.{bit, union, word}
 use Rattle.model.specs.Domains.{Variable, str, num, values_of, owner}
-use Rattle.model.specs.Constraints.{Choice, Problem, Constraint, always, eq, neq, rev, cat, sub, len, regular, duration, width, variables, meets}
+use Rattle.model.specs.Constraints.{Choice, Problem, Constraint, always, eq, neq, rev, cat, sub, len, regular, width, variables, meets}
 use Rattle.model.specs.Solutions.{InRange, used}
 use Rattle.model.specs.Support.{supports, touches, narrowed}
 use Rattle.laws.specs.Inclusion.{In, Within, Below}
@@ -29,7 +29,6 @@ meets-agree P (cat x y z) γ α h = rw (h (str x) (Memᴰ.head refl), h (str y) 
 meets-agree P (sub x y n) γ α h = rw (h (str x) (Memᴰ.head refl), h (str y) (Memᴰ.tail (Memᴰ.head refl)), h (num n) (Memᴰ.tail (Memᴰ.tail (Memᴰ.head refl))))
 meets-agree P (len x n) γ α h = rw (h (str x) (Memᴰ.head refl), h (num n) (Memᴰ.tail (Memᴰ.head refl)))
 meets-agree P (regular x d) γ α h = rw (h (str x) (Memᴰ.head refl))
-meets-agree P (duration x v) γ α h = rw (h (str x) (Memᴰ.head refl))
 
 -- the choice takes the constraint's variables from their domains in T, and meets it
 pub record Supporting (P : Problem) (c : Constraint) (T : List ℕ) (α : Choice) : Type 0 where
@@ -178,4 +177,5 @@ module _ (P : Problem) (c : Constraint) (T : List ℕ) (ln : length T ≡ width 
   narrowed-trimmed x k = strikes_nothing (always x) (λ v m. of_one v m) (λ α e. refl)
     where
       of_one : (v : Variable) → In v (str x ∷ []) → In v (variables c)
+      of_one v (Memᴰ.tail x5) = elim x5 [ ]
       of_one v (Memᴰ.head e) = subst (λ (u : Variable). In u (variables c)) (sym e) k

@@ -124,5 +124,5 @@ pub trim-support : (P : Problem) (T : List ℕ) (x : ℕ) → x < P.strings → 
 unfolding variables meets
 trim-support P T x h f = moved-support (Supporting P (always x) T) (λ w. In w (strings_of T x)) (λ α. text_bit (α.text x)) text_bit 64 (row (narrowed P (always x) T) x)
     (λ α s. (α.text x, s.in_domains (str x) (Memᴰ.head refl), λ i k. refl))
-    (λ w m. (record { text = λ y. w; value = λ n. 0 }, record { in_domains = λ v k. elim k [ Memᴰ.head e ↦ subst (InDomain P.strings T (record { text = λ y. w; value = λ n. 0 })) (sym e) m ]; meeting = refl }, λ i k. refl))
+    (λ w m. (record { text = λ y. w; value = λ n. 0 }, record { in_domains = λ v k. elim k [ Memᴰ.head e ↦ subst (InDomain P.strings T (record { text = λ y. w; value = λ n. 0 })) (sym e) m | Memᴰ.tail x5 ↦ elim x5 [ ] ]; meeting = refl }, λ i k. refl))
     (text-support P (always x) T x h f (Memᴰ.head refl))

@@ -60,6 +60,7 @@ select_le {A} p q (x ∷ xs) h = go (p x) (q x) (h x) (select_le p q xs h)
 select-eq : {A : Type 0} (p q : A → Bool) (xs : List A) → ((x : A) → p x ≡ true → q x ≡ true) → length (select q xs) ≤ length (select p xs)
     → (x : A) → In x xs → q x ≡ true → p x ≡ true
 unfolding select
+select-eq {A = A} p q [] h l x m e = elim m [ ]
 select-eq {A} p q (y ∷ xs) h l x m e = go (p y) (q y) refl refl l m (λ r k. select-eq p q xs h r x k e)
   where
     go : (a b : Bool) → p y ≡ a → q y ≡ b → length (cond b (y ∷ select q xs) (select q xs)) ≤ length (cond a (y ∷ select p xs) (select p xs)) → In x (y ∷ xs)

@@ -117,6 +117,7 @@ module _ (P : Problem) where
   first_below : (sub : ℕ → List (List ℕ)) (bs : List ℕ) → Increasing bs → (N : List ℕ) → FirstIn P N (flat_map sub bs)
       → (b : ℕ) × In b bs × FirstIn P N (sub b) × ((c : ℕ) → In c bs → (c ≡ b) ⊎ ((b < c) ⊎ NoneSolved P (sub c)))
   unfolding flat_map
+  first_below sub [] inc N f = elim f [ ]
   first_below sub (b ∷ bs) inc N f = ⊎_elim at_head (λ g. in_tail g.0 (first_below sub bs inc.1 N g.1)) (first-append (sub b) (flat_map sub bs) N f)
     where
       at_head : FirstIn P N (sub b) → (d : ℕ) × In d (b ∷ bs) × FirstIn P N (sub d) × ((c : ℕ) → In c (b ∷ bs) → (c ≡ d) ⊎ ((d < c) ⊎ NoneSolved P (sub c)))

@@ -1,7 +1,7 @@
 -- The trailer: its mark byte by byte, the trailer from its numbers, and its tests one after the other. Assumes nothing.
 use mathlib.Core.Path.{◌≡◌, sym, ap, ◌∙◌}
 use mathlib.Core.Logic.{◌≢◌}
-use mathlib.Core.Bool.{true, false, ◌&&◌, and_true, and-false}
+use mathlib.Core.Bool.{true, false, ◌&&◌, and-true, and-false}
 use mathlib.Core.List.{List, [], ◌∷◌}
 use Prim.Native.Nat.{ℕ, ◌+◌, ◌-◌, ◌*◌, ◌≤◌}
 use native.Mathlib.Omega.{arith}
@@ -46,7 +46,7 @@ module _ (file : List ℕ) where
 
     pub last_decides : get_or file (start file + 20) 0 ≡ 84 → get_or file (start file + 21) 0 ≡ 65 → get_or file (start file + 22) 0 ≡ 73
         → eqb (get_or file (start file + 23) 0) 76 ≡ same (trailer file).mark tail
-    last_decides first second third = sym (mark-test ∙ simp (eq-eqb _ _ first, eq-eqb _ _ second, eq-eqb _ _ third, and_true))
+    last_decides first second third = sym (mark-test ∙ simp (eq-eqb _ _ first, eq-eqb _ _ second, eq-eqb _ _ third, and-true))
 
   -- the numbers read one after the other make the trailer
   pub trailer-numbers : (h : Trailer)

@@ -2,6 +2,9 @@
 // back as numbers.
 //
 // Assumes nothing. No field of the trailer is wider than 32 bits, so that in a `usize` no sum of distances wraps.
+
+#![tactic(auto)]
+
 ghost use Rattle.std.specs.Prelude.{◌≡◌, ◌+◌, ◌≤◌, length};
 ghost use Rattle.model.specs.Lists.{same};
 ghost use Rattle.model.specs.Layout.{little, part, trailer, tail, in_bounds, abutting, layout};

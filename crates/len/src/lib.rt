@@ -1,6 +1,9 @@
 // Len(X, N): N is the length of X.
 //
 // Assumes nothing. Requires a string with a tidy row, and a word after it for the number.
+
+#![tactic(auto)]
+
 ghost use Rattle.std.specs.Prelude.{[], ◌∷◌, ◌<◌, ◌≤◌, ◌+◌, ◌*◌, length};
 ghost use Rattle.model.specs.Domains.{row};
 ghost use Rattle.model.specs.Constraints.{len};

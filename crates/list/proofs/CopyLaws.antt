@@ -19,12 +19,12 @@ use Rattle.list.specs.Listed.{meaning, blank, Listed}
 
 -- c has the bytes of record j
 abbrev pub Holds : List ℕ → ℕ → Constraint → Type 0
-Holds bytes j c = (p : Parts) → meaning p c ≡ decode p.k p.s p.t p.d (part (4 * j) 4 bytes)
+Holds bytes j c = (p : Parts) → meaning p c ≡ decode p.s p.t p.d (part (4 * j) 4 bytes)
 
 pub holds-bytes : (bytes : List ℕ) (j : ℕ) → 4 * j + 4 ≤ length bytes
     → Holds bytes j (record { kind = get_or bytes (4 * j) 0; x = get_or bytes (4 * j + 1) 0; y = get_or bytes (4 * j + 2) 0; z = get_or bytes (4 * j + 3) 0 })
 unfolding meaning
-holds-bytes bytes j h p = of-bytes p.k p.s p.t p.d (4 * j) bytes _ h refl
+holds-bytes bytes j h p = of-bytes p.s p.t p.d (4 * j) bytes _ h refl
 
 -- the first j of 64 are the file's records
 pub record Copied (bytes : List ℕ) (j : ℕ) (cs : List Constraint) : Type 0 where

@@ -37,7 +37,7 @@ module _ (file : List ℕ) (p : Parts) (T : List ℕ) where
   -- ---- one constraint, decoded
 
   module _ (c : Constraint) (pre : Usable file p × (lendable P T ≡ true) × OfFile file p c)
-      (o : Decoded) (e : decoded_of o ≡ decode p.k p.s p.t p.d (c.kind ∷ c.x ∷ c.y ∷ c.z ∷ [])) where
+      (o : Decoded) (e : decoded_of o ≡ decode p.s p.t p.d (c.kind ∷ c.x ∷ c.y ∷ c.z ∷ [])) where
     decoded : decoded_of o ≡ some pre.2.is
     unfolding meaning
     decoded = e ∙ pre.2.means

@@ -15,7 +15,7 @@ blank = record { kind = 0; x = 0; y = 0; z = 0 }
 
 -- the constraint that the four bytes are in a file of these parts, if they are one
 unfoldable pub meaning : Parts → Constraint → Option (model.Constraint)
-meaning p c = decode p.k p.s p.t p.d (c.kind ∷ c.x ∷ c.y ∷ c.z ∷ [])
+meaning p c = decode p.s p.t p.d (c.kind ∷ c.x ∷ c.y ∷ c.z ∷ [])
 
 -- c is one of the file's constraints
 pub record OfFile (file : List ℕ) (p : Parts) (c : Constraint) : Type 0 where

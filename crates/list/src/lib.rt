@@ -3,6 +3,9 @@
 // functions.
 //
 // Assumes nothing. `requires` asks what refusals 1 to 10 leave, and that the list is the file's.
+
+#![tactic(auto)]
+
 ghost use Rattle.std.specs.Prelude.{◌≡◌, true, ◌+◌, ◌*◌, ◌<◌, ◌≤◌, length, get_or};
 ghost use Rattle.std.proofs.Math.Option.{some};
 ghost use Rattle.model.specs.Constraints.{always, Constraint as Meant};
@@ -30,7 +33,7 @@ pub struct Constraint {
 // Record j of the constraint bytes, as it stands there.
 fn read(bytes: &[u8], j: usize) -> Constraint
     requires { 4 * j + 4 ≤ length bytes.now }
-    ensures { (p : Parts) → meaning p result ≡ decode p.k p.s p.t p.d (part (4 * j) 4 bytes.now) }
+    ensures { (p : Parts) → meaning p result ≡ decode p.s p.t p.d (part (4 * j) 4 bytes.now) }
 {
     let i = 4 * j;
     Constraint {
@@ -65,7 +68,7 @@ pub fn record_step(c: Constraint, file: &[u8], p: layout::Parts, table: &mut [u6
     requires { Usable file.now p × (lendable (problem_in file.now p) table.old ≡ true) × OfFile file.now p c }
     ensures { (d : Meant) → meaning p c ≡ some d → Step (problem_in file.now p) d table.old table.new result }
 {
-    let records::Decoded::Constraint(r) = records::decode(c.kind, c.x, c.y, c.z, p.s, p.t, p.d, p.k)
+    let records::Decoded::Constraint(r) = records::decode(c.kind, c.x, c.y, c.z, p.s, p.t, p.d)
     else {
         return 0;
     };
@@ -114,7 +117,7 @@ fn record_apply(c: Constraint, file: &[u8], p: layout::Parts, kinds: &[u64], tab
     requires { Usable file.now p × (lendable (problem_in file.now p) table.old ≡ true) × KindsIn file.now p kinds.now × OfFile file.now p c }
     ensures { (d : Meant) → meaning p c ≡ some d → table.new ≡ narrowed (problem_in file.now p) d table.old }
 {
-    let records::Decoded::Constraint(r) = records::decode(c.kind, c.x, c.y, c.z, p.s, p.t, p.d, p.k)
+    let records::Decoded::Constraint(r) = records::decode(c.kind, c.x, c.y, c.z, p.s, p.t, p.d)
     else {
         return;
     };

@@ -1,6 +1,9 @@
 // The listing: what the program prints for the bytes of its standard input, written into a lent buffer.
 //
 // Assumes nothing. No public function has a `requires`.
+
+#![tactic(auto)]
+
 ghost use Rattle.std.specs.Prelude.{◌≡◌, ◌+◌, ◌*◌, ◌≤◌, ◌<◌, length, get_or, drop};
 ghost use mathlib.Core.List.{◌∷◌, [], ◌++◌, flat_map, map};
 ghost use Rattle.model.specs.Reading.{reading};

@@ -1,6 +1,9 @@
 // Numbers of two, four and eight bytes, little-endian, at any place of a lent slice.
 //
 // Assumes nothing. `requires` asks that the bytes are there.
+
+#![tactic(auto)]
+
 ghost use Rattle.std.specs.Prelude.{◌≡◌, ◌+◌, ◌≤◌, length};
 ghost use Rattle.model.specs.Layout.{little, part};
 

@@ -105,9 +105,6 @@ module _ {T : List ℕ} (r : TidyRows 3 T) where
   pub asked-len : (64 * 2 + 64 ≤ 192) × (192 < length T) × Tidy (row T 2)
   asked-len = (omega arith, number_fits, tidy-z)
 
-  pub asked-one : (64 * 0 + 64 ≤ length T) × Tidy (row T 0)
-  asked-one = (row_fits 0 (omega arith), tidy-x)
-
   -- a word has no bit at 64 or above
   pub asked-regular : (d ks : List ℕ) → Whole 64 d → length ks ≡ 0 → (64 ≤ 64) × Whole 64 d × Kinds (machine 64 d) (state_count d) 64 ks 0
       × (64 * 0 + 64 ≤ length T) × Alphabet 64 (row T 0) × Tidy (row T 0)

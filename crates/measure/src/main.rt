@@ -1,8 +1,11 @@
 // Runs narrowing steps on domains made here, as often as it is asked, and prints how many bits are left: bench/steps.py counts the instructions.
 //
-// Standard input holds groups of three bytes: the kind of step (0 trims, 1 to 8 are the kinds of constraint, any other does nothing), the domains (0 full, else
+// Standard input holds groups of three bytes: the kind of step (0 trims, 1 to 7 are the paper's kinds, any other does nothing), the domains (0 full, else
 // typical), and how often. Each step works on what the last one left, so that none can be skipped. The table has the rows of three strings, X, Y and Z, and the
 // word of a number, N; its rows are made tidy before the first step, as every step asks.
+
+#![tactic(auto)]
+
 ghost use Rattle.std.specs.Prelude.{◌≡◌, ◌+◌, ◌*◌, ◌≤◌, true, length};
 ghost use Rattle.automata.specs.Machine.{Whole};
 ghost use Rattle.measure.specs.TidyRows.{TidyRows};
@@ -80,7 +83,7 @@ fn regular_step(t: &mut [u64]) -> bool
     regular::narrow(&d, 64, &kinds, 0, t, 0).left
 }
 
-// One step of this kind; whether a choice is left. Sub looks for X in Z from N on, Len measures Z, and Duration is of version 3.
+// One step of this kind; whether a choice is left. Sub looks for X in Z from N on, and Len measures Z.
 fn step(kind: u8, t: &mut [u64]) -> bool
     requires { TidyRows 3 t.old }
     ensures { result ≡ true → TidyRows 3 t.new }
@@ -94,7 +97,6 @@ fn step(kind: u8, t: &mut [u64]) -> bool
         5 => sub::narrow(t, 2, 0, 192).left,
         6 => len::narrow(t, 2, 192).left,
         7 => regular_step(t),
-        8 => duration::narrow(t, 0, 3).left,
         _ => true,
     }
 }

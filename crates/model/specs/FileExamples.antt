@@ -1,7 +1,7 @@
 -- Two files by their bytes: P14's, with what the program prints for it, and one whose distances sum past 32 bits. Assumes nothing.
 use Rattle.std.specs.Prelude.{◌≡◌, refl, ℕ, zero, suc, ◌-◌, ◌/◌, ◌%◌, ◌^◌, length}
 use mathlib.Core.List.{List, [], ◌∷◌, ◌++◌, flat_map}
-use Rattle.std.proofs.Math.Option.{Option·elim, bind}
+use Rattle.std.proofs.Math.Option.{Option-elim, bind}
 use Rattle.model.specs.Lists.{select, any, all, find, given, map_from, collect, from, upto, same}
 use Rattle.model.specs.Words.{bit, bits, several, none_from, union, size}
 use Rattle.model.specs.Domains.{same_variable, texts, strings, row, values_of, owner}
@@ -55,7 +55,7 @@ unfolding lines14 file14 file_from table_from sets set select any all find map_f
     same_variable texts strings row values_of owner variables meets text_bit used
     choices supports touches narrowed struck variables_of value_count every_value steps run round after settling_in settling
     solved words_of branch_variable branch_word branch restricted children nodes_in nodes numbered first_solved hit miss searching
-    require and_then search flat_map Option·elim bind decimal_in decimal field line string_line number_line solution_lines outcome_lines search_lines
+    require and_then search flat_map Option-elim bind decimal_in decimal field line string_line number_line solution_lines outcome_lines search_lines
 search_lines14 = refl
 
 length14 : length bytes14 ≡ 1576

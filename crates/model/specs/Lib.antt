@@ -24,7 +24,6 @@ pub mod Examples
 pub mod FileExamples
 pub mod QueueExamples
 pub mod GapExamples
-pub mod DurationExamples
 pub mod Traps
 pub mod Pattern
 pub mod PatternText

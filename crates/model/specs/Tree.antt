@@ -1,7 +1,7 @@
 -- The search tree and what a budget makes of it (document 01, "The search tree"). Assumes nothing.
 use Rattle.std.specs.Prelude.{Bool, cond, ℕ, zero, suc, ◌+◌, ◌*◌, ◌^◌, eqb, leb, length, set}
 use mathlib.Core.List.{List, [], ◌∷◌, map, flat_map}
-use Rattle.std.proofs.Math.Option.{Option, Option·elim, bind}
+use Rattle.std.proofs.Math.Option.{Option, Option-elim, bind}
 use Rattle.model.specs.Lists.{all, find, from, map_from}
 use Rattle.model.specs.Words.{bits, several, size, word}
 use Rattle.model.specs.Domains.{Variable, str, num}
@@ -35,7 +35,7 @@ restricted S i = map (λ b. set S i (2 ^ b)) (bits (word S i))
 
 -- "If a variable has no value it is dead"; a solved node has no variable to branch on
 unfoldable pub children : Problem → List ℕ → List (List ℕ)
-children P S = cond (every_value P S) (Option·elim (branch P S) [] (restricted S)) []
+children P S = cond (every_value P S) (Option-elim (branch P S) [] (restricted S)) []
 
 -- the nodes at and below T, to a depth of f
 unfoldable pub nodes_in : ℕ → Problem → List ℕ → List (List ℕ)
@@ -84,4 +84,4 @@ unfoldable pub searching : Problem → List ℕ → ℕ → List ℕ → Search
 searching P F budget A =
     let ns = nodes P F in
     let unsolved = miss budget A (length ns) in
-    Option·elim (first_solved P ns) unsolved (hit budget A)
+    Option-elim (first_solved P ns) unsolved (hit budget A)

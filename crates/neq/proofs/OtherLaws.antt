@@ -9,7 +9,7 @@ use lib.Bits.{bit_and}
 use lib.Dec.{eqb}
 use lib.ListN.{length, get_or, set, length-set}
 use lib.Seq.{ext_get_or, get_or-set_same, get_or-set_other}
-use borrow.Author.Tests.{eqb-true, eqb-false, not_true}
+use borrow.Author.Tests.{eqb-true, eqb-false, not-true}
 use Rattle.model.specs.Lists.{any}
 use Rattle.model.specs.Words.{bit, several, word, Words}
 use Rattle.model.specs.Constraints.{differ}
@@ -34,7 +34,7 @@ pub in_lacking : (w v b : ℕ) → v < 2 ^ 64 → b < 64 → bit w b ≡ true �
 in_lacking w v b s h p q = and-bit w (2 ^ 64 - 1 - v) b p (bit_flip 64 v b s h ∙ ap not q)
 
 pub of-lacking : (w v b : ℕ) → v < 2 ^ 64 → b < 64 → bit (bit_and w (2 ^ 64 - 1 - v)) b ≡ true → (bit w b ≡ true) × (bit v b ≡ false)
-of-lacking w v b s h e = let t = of-and-bit w (2 ^ 64 - 1 - v) b e in (t.0, not_true (bit v b) (sym (bit_flip 64 v b s h) ∙ t.1))
+of-lacking w v b s h e = let t = of-and-bit w (2 ^ 64 - 1 - v) b e in (t.0, not-true (bit v b) (sym (bit_flip 64 v b s h) ∙ t.1))
 
 module _ (x y : List ℕ) (lx : length x ≡ 64) (ly : length y ≡ 64) (bx : Words x) (bY : Words y) (tx : Tidy x) (ty : Tidy y) (one : any several y ≡ false) where
   -- ---- the one string of y

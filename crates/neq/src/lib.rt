@@ -1,6 +1,9 @@
 // Neq(X, Y): some difference in length or at some place.
 //
 // Assumes nothing. Requires two strings with tidy rows.
+
+#![tactic(auto)]
+
 ghost use Rattle.std.specs.Prelude.{◌≡◌, ◌≢◌, not, [], ◌∷◌, ◌<◌, ◌≤◌, ◌+◌, ◌*◌, length};
 ghost use Rattle.model.specs.Lists.{any};
 ghost use Rattle.model.specs.Words.{several};

@@ -2,6 +2,9 @@
 //
 // Standard input holds one case after another: two bytes that say how long the file is, four that say how often it is searched before the search that is
 // printed, four with the budget, and the file.
+
+#![tactic(auto)]
+
 ghost use Rattle.std.specs.Prelude.{◌≤◌, length};
 
 use libc::{STDIN_FILENO, STDOUT_FILENO};

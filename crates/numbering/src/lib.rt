@@ -1,6 +1,9 @@
 // Numbers the states of a pattern in the order in which they are first reached.
 //
 // Assumes nothing. `places` has the letters of each symbol, `follow` and `first` are what the readers leave; `sets` gets the set of each state but the start.
+
+#![tactic(auto)]
+
 ghost use Rattle.std.specs.Prelude.{◌≡◌, List, map, ℕ, ◌+◌, ◌<◌, ◌≤◌, length, get_or};
 ghost use Rattle.std.specs.Int.Bits.{bit_and};
 ghost use Rattle.model.specs.Words.{bits, union};

@@ -1,6 +1,9 @@
 // Reads the text of a pattern: branch, item and group readers call one another, and the unread bytes fall.
 //
 // Assumes nothing. Each reader answers the first and last letters of what it read, and adds to the lent array which letters follow which.
+
+#![tactic(auto)]
+
 ghost use Rattle.std.specs.Prelude.{◌≡◌, ◌&&◌, ◌||◌, ℕ, ◌+◌, ◌-◌, ◌*◌, ◌<◌, ◌≤◌, length};
 ghost use Rattle.model.specs.PatternText.{symbol_of, sees, ended, pattern_at, branch_at, item_at, parse};
 ghost use Rattle.model.specs.PatternStates.{when};

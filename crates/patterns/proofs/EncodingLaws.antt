@@ -1,6 +1,6 @@
 -- The bytes of an automaton are read as that automaton. Assumes nothing.
 use mathlib.Core.Path.{◌≡◌, refl, sym, ap, ap₂, subst, ◌∙◌}
-use mathlib.Core.Bool.{Bool, true, cond, ◌&&◌, ◌||◌, or_true}
+use mathlib.Core.Bool.{Bool, true, cond, ◌&&◌, ◌||◌, or-true}
 use mathlib.Core.List.Memᴰ
 use mathlib.Core.List.{List, [], ◌∷◌, ◌++◌, map, flat_map, map-id, map-map}
 use mathlib.Core.Option.{Option, none, some}
@@ -54,7 +54,7 @@ flat_pieces k (row ∷ rows) w =
 -- it is one that refusal 5 lets pass
 byte_known : (q : ℕ) (m : Option ℕ) → ((p : ℕ) → m ≡ some p → p < q) → known q (byte_of m) ≡ true
 unfolding known byte_of
-byte_known q none h = or_true (ltb 255 q)
+byte_known q none h = or-true (ltb 255 q)
 byte_known q (some p) h = ap (λ (t : Bool). t || eqb p 255) (lt-ltb p q (h p refl))
 
 -- and it is read as that move: the number of a state is never the byte of a gap

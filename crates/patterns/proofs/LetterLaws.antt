@@ -3,13 +3,13 @@
 -- follows the one before. Assumes nothing.
 use mathlib.Core.Path.{◌≡◌, refl, sym}
 use mathlib.Core.Logic.{◌⊎◌, inl, inr, ⊎_elim}
-use mathlib.Core.Bool.{true, false≢true, or_true}
+use mathlib.Core.Bool.{true, false≢true, or-true}
 use mathlib.Core.List.{List, [], ◌∷◌, ◌++◌, append-nil, append_assoc, append-eq-nil_iff, cons≢nil, nil≢cons}
 use Prim.Native.Nat.{ℕ, ◌≤◌, ◌<◌}
 use native.Mathlib.Omega.{arith}
 use lib.Bits.{bit_or}
 use Rattle.model.specs.Words.{bit}
-use Rattle.laws.proofs.ListLaws.{and_true, true_and, or_true as either_true}
+use Rattle.laws.proofs.ListLaws.{and_true, true_and, or-true as either_true}
 use Rattle.laws.proofs.WordLaws.{or-bit-left, or-bit-right, pow_self, pow-only}
 use Rattle.model.specs.Pattern.{Pattern, empty, letter, either, both, many, Repeated, stop, more, Language, JustPassed}
 use Rattle.model.specs.PatternStates.{when, nullable, first, last, follow}
@@ -68,7 +68,7 @@ module _ (symbol : ℕ → ℕ) where
       (λ t. inr (t.0, inl t.1, or-bit-left _ _ _ t.2))
       (of-ended e w h)
   of-ended (either e f) w (inr h) = ⊎_elim
-      (λ t. inl (t.0, rw t.1 (or_true (nullable e))))
+      (λ t. inl (t.0, rw t.1 (or-true (nullable e))))
       (λ t. inr (t.0, inr t.1, or-bit-right (last e) _ _ t.2))
       (of-ended f w h)
   of-ended (both e f) w h = ⊎_elim

@@ -66,7 +66,7 @@ module _ (file : List ℕ) (p : Parts) (u : Usable file p) (j : ℕ) where
   abbrev records : List ℕ
   records = take (p.automata_at - p.constraints_at) (drop p.constraints_at file)
 
-  pub places-constraint : j < p.c → (o : Decoded) → decoded_of o ≡ decode p.k p.s p.t p.d (part (4 * j) 4 records) → (r : Record) → o ≡ One r
+  pub places-constraint : j < p.c → (o : Decoded) → decoded_of o ≡ decode p.s p.t p.d (part (4 * j) 4 records) → (r : Record) → o ≡ One r
       → (m : Positions) → Standing p.s r m → Places P j m
   places-constraint h o e r q m s =
       let n = usable-counts file p u in

@@ -3,6 +3,9 @@
 // share a variable, so that no step is looked for among all of them.
 //
 // Assumes nothing. `requires` asks what refusals 1 to 10, 18 and 19 leave, and within the crate that ring and words agree.
+
+#![tactic(auto)]
+
 ghost use Rattle.std.specs.Prelude.{◌≡◌, true, List, ℕ, ◌+◌, ◌*◌, ◌<◌, ◌≤◌, ltb, length};
 ghost use Rattle.model.specs.Words.{bit};
 ghost use Rattle.model.specs.StepIndex.{index_of};
@@ -81,8 +84,7 @@ fn places(file: &[u8], p: layout::Parts, j: usize) -> index::Positions
     }
     let start = p.constraints_at;
     let end = p.automata_at;
-    let records::Decoded::Constraint(r) = records::at(&file[start..end], j, p.s, p.t, p.d, p.k)
-    else {
+    let records::Decoded::Constraint(r) = records::at(&file[start..end], j, p.s, p.t, p.d) else {
         return index::Positions {
             at: [0, 0, 0],
             count: 0,

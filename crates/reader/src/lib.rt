@@ -3,6 +3,9 @@
 // `number_at` and `left_at`, and `record` hands it to `next`.
 //
 // Assumes nothing. `requires` asks that the bytes are there, and that the number fits.
+
+#![tactic(auto)]
+
 ghost use Rattle.std.specs.Prelude.{◌≡◌, ◌+◌, ◌-◌, ◌≤◌, length};
 ghost use Rattle.model.specs.Layout.{little, part};
 ghost use Rattle.reader.specs.Places.{after};

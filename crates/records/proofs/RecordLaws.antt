@@ -1,7 +1,7 @@
--- Laws of one record: its four bytes, the kinds with the tests of their arguments, and a string that is named twice. Assumes nothing.
+-- Laws of one record: its four bytes, the kinds with the bounds of their arguments, and a string that is named twice. Assumes nothing.
 use mathlib.Core.Path.{◌≡◌, refl, sym, ap, ◌∙◌}
 use mathlib.Core.Logic.{◌≢◌}
-use mathlib.Core.Bool.{Bool, true, false, cond, not, ◌&&◌, ◌||◌}
+use mathlib.Core.Bool.{Bool, true, false, cond, ◌&&◌, ◌||◌}
 use mathlib.Core.List.{List, [], ◌∷◌}
 use mathlib.Core.Option.{Option, none, some, bind}
 use Prim.Native.Nat.{ℕ, zero, suc, ◌+◌, ◌*◌, ◌/◌, ◌%◌, ◌≤◌, ◌<◌}
@@ -13,7 +13,7 @@ use Rattle.model.specs.Lists.{any, given}
 use Rattle.model.specs.Domains.{str, num, same_variable}
 use Rattle.model.specs.Constraints.{Constraint}
 use Rattle.model.specs.Layout.{Bytes, little, part}
-use Rattle.model.specs.Reading.{Sort, string, number, machine, version, unused, names, Kind, kinds, kind_of, decode, repeats}
+use Rattle.model.specs.Reading.{Sort, string, number, machine, unused, names, Kind, kinds, kind_of, decode, repeats}
 use Rattle.little.proofs.LittleLaws.{part-next, little-four}
 use Rattle.records.specs.declared.Record.{Record}
 use Rattle.records.specs.declared.Decoded.{Decoded}
@@ -38,9 +38,9 @@ four_bytes i bs h =
     sym (rw e at (part-next bs i 0 3 (omega arith)) ∙ ap (λ (r : List ℕ). get_or bs i 0 ∷ r) (part-next bs i 1 2 (omega arith)
     ∙ ap (λ (r : List ℕ). get_or bs (i + 1) 0 ∷ r) (part-next bs i 2 1 (omega arith) ∙ ap (λ (r : List ℕ). get_or bs (i + 2) 0 ∷ r) (part-next bs i 3 0 (omega arith)))))
 
-pub of-bytes : (k s t d i : ℕ) (bs : List ℕ) (o : Option Constraint) → i + 4 ≤ length bs
-    → o ≡ decode k s t d (get_or bs i 0 ∷ get_or bs (i + 1) 0 ∷ get_or bs (i + 2) 0 ∷ get_or bs (i + 3) 0 ∷ []) → o ≡ decode k s t d (part i 4 bs)
-of-bytes k s t d i bs o h e = e ∙ ap (decode k s t d) (four_bytes i bs h)
+pub of-bytes : (s t d i : ℕ) (bs : List ℕ) (o : Option Constraint) → i + 4 ≤ length bs
+    → o ≡ decode s t d (get_or bs i 0 ∷ get_or bs (i + 1) 0 ∷ get_or bs (i + 2) 0 ∷ get_or bs (i + 3) 0 ∷ []) → o ≡ decode s t d (part i 4 bs)
+of-bytes s t d i bs o h e = e ∙ ap (decode s t d) (four_bytes i bs h)
 
 -- the lowest byte of a number, and the four bytes of one
 lowest : (a m : ℕ) → a < 256 → (a + 256 * m) % 256 ≡ a
@@ -66,50 +66,47 @@ of_number i bs small h =
 
 -- ---- its kind
 
--- how an argument of this sort is tested; an unused one, 0, is below 1
-unfoldable pub tested : ℕ → ℕ → ℕ → ℕ → Sort → ℕ → Bool
-tested k s t d string x = ltb x s
-tested k s t d number x = ltb x t
-tested k s t d machine x = ltb x d
-tested k s t d version v = not (eqb v 0 || ltb k 11)
-tested k s t d unused x = ltb x 1
+-- what an argument of this sort is below; an unused one, 0, is below 1
+unfoldable pub bound : ℕ → ℕ → ℕ → Sort → ℕ
+bound s t d string = s
+bound s t d number = t
+bound s t d machine = d
+bound s t d unused = 1
 
-names-tested : (k s t d : ℕ) (σ : Sort) (x : ℕ) → names k s t d σ x ≡ tested k s t d σ x
-unfolding names tested
-names-tested k s t d string x = refl
-names-tested k s t d number x = refl
-names-tested k s t d machine x = refl
-names-tested k s t d version v = refl
-names-tested k s t d unused x = zero_test x
+names-bound : (s t d : ℕ) (σ : Sort) (x : ℕ) → names s t d σ x ≡ ltb x (bound s t d σ)
+unfolding names bound
+names-bound s t d string x = refl
+names-bound s t d number x = refl
+names-bound s t d machine x = refl
+names-bound s t d unused x = zero_test x
   where
     zero_test : (n : ℕ) → eqb n 0 ≡ ltb n 1
     zero_test zero = refl
     zero_test (suc n) = ne_eqb (suc n) 0 (λ e. absurd (omega arith)) ∙ sym (le-ltb (suc n) 1 (omega arith))
 
--- what is made of a record of kind n, whose arguments were tested
-pub of_kind : (k s t d n m x y z : ℕ) (κ : Kind) (named : Bool) (o : Option Constraint) → kind_of n ≡ some κ → m ≡ n
-    → named ≡ (tested k s t d κ.first x && tested k s t d κ.second y && tested k s t d κ.third z)
-    → o ≡ given named (κ.make x y z) → o ≡ decode k s t d (m ∷ x ∷ y ∷ z ∷ [])
+-- what is made of a record of kind n, whose arguments were held against their bounds
+pub of_kind : (s t d n k x y z : ℕ) (κ : Kind) (named : Bool) (o : Option Constraint) → kind_of n ≡ some κ → k ≡ n
+    → named ≡ (ltb x (bound s t d κ.first) && ltb y (bound s t d κ.second) && ltb z (bound s t d κ.third))
+    → o ≡ given named (κ.make x y z) → o ≡ decode s t d (k ∷ x ∷ y ∷ z ∷ [])
 unfolding decode bind
-of_kind k s t d n m x y z κ named o e q b r =
-    let f = names-tested k s t d κ.first x in
-    let g = names-tested k s t d κ.second y in
-    let h = names-tested k s t d κ.third z in
+of_kind s t d n k x y z κ named o e q b r =
+    let f = names-bound s t d κ.first x in
+    let g = names-bound s t d κ.second y in
+    let h = names-bound s t d κ.third z in
     r ∙ rw (q, e, f, g, h, b)
 
--- "a kind outside 1 to 7"; by ticket 6 "Refusal 7 now lets kind 8 pass"
-pub no_kind : (k s t d n x y z : ℕ) → n ≢ 1 → n ≢ 2 → n ≢ 3 → n ≢ 4 → n ≢ 5 → n ≢ 6 → n ≢ 7 → n ≢ 8 → none ≡ decode k s t d (n ∷ x ∷ y ∷ z ∷ [])
+-- "a kind outside 1 to 7"
+pub no_kind : (s t d k x y z : ℕ) → k ≢ 1 → k ≢ 2 → k ≢ 3 → k ≢ 4 → k ≢ 5 → k ≢ 6 → k ≢ 7 → none ≡ decode s t d (k ∷ x ∷ y ∷ z ∷ [])
 unfolding decode kind_of kinds bind
-no_kind k s t d zero x y z n₁ n₂ n₃ n₄ n₅ n₆ n₇ n₈ = refl
-no_kind k s t d (suc zero) x y z n₁ n₂ n₃ n₄ n₅ n₆ n₇ n₈ = absurd (n₁ refl)
-no_kind k s t d (suc (suc zero)) x y z n₁ n₂ n₃ n₄ n₅ n₆ n₇ n₈ = absurd (n₂ refl)
-no_kind k s t d (suc (suc (suc zero))) x y z n₁ n₂ n₃ n₄ n₅ n₆ n₇ n₈ = absurd (n₃ refl)
-no_kind k s t d (suc (suc (suc (suc zero)))) x y z n₁ n₂ n₃ n₄ n₅ n₆ n₇ n₈ = absurd (n₄ refl)
-no_kind k s t d (suc (suc (suc (suc (suc zero))))) x y z n₁ n₂ n₃ n₄ n₅ n₆ n₇ n₈ = absurd (n₅ refl)
-no_kind k s t d (suc (suc (suc (suc (suc (suc zero)))))) x y z n₁ n₂ n₃ n₄ n₅ n₆ n₇ n₈ = absurd (n₆ refl)
-no_kind k s t d (suc (suc (suc (suc (suc (suc (suc zero))))))) x y z n₁ n₂ n₃ n₄ n₅ n₆ n₇ n₈ = absurd (n₇ refl)
-no_kind k s t d (suc (suc (suc (suc (suc (suc (suc (suc zero)))))))) x y z n₁ n₂ n₃ n₄ n₅ n₆ n₇ n₈ = absurd (n₈ refl)
-no_kind k s t d (suc (suc (suc (suc (suc (suc (suc (suc (suc n))))))))) x y z n₁ n₂ n₃ n₄ n₅ n₆ n₇ n₈ = refl
+no_kind s t d zero x y z n₁ n₂ n₃ n₄ n₅ n₆ n₇ = refl
+no_kind s t d (suc zero) x y z n₁ n₂ n₃ n₄ n₅ n₆ n₇ = absurd (n₁ refl)
+no_kind s t d (suc (suc zero)) x y z n₁ n₂ n₃ n₄ n₅ n₆ n₇ = absurd (n₂ refl)
+no_kind s t d (suc (suc (suc zero))) x y z n₁ n₂ n₃ n₄ n₅ n₆ n₇ = absurd (n₃ refl)
+no_kind s t d (suc (suc (suc (suc zero)))) x y z n₁ n₂ n₃ n₄ n₅ n₆ n₇ = absurd (n₄ refl)
+no_kind s t d (suc (suc (suc (suc (suc zero))))) x y z n₁ n₂ n₃ n₄ n₅ n₆ n₇ = absurd (n₅ refl)
+no_kind s t d (suc (suc (suc (suc (suc (suc zero)))))) x y z n₁ n₂ n₃ n₄ n₅ n₆ n₇ = absurd (n₆ refl)
+no_kind s t d (suc (suc (suc (suc (suc (suc (suc zero))))))) x y z n₁ n₂ n₃ n₄ n₅ n₆ n₇ = absurd (n₇ refl)
+no_kind s t d (suc (suc (suc (suc (suc (suc (suc (suc k)))))))) x y z n₁ n₂ n₃ n₄ n₅ n₆ n₇ = refl
 
 -- ---- "naming one string twice"
 

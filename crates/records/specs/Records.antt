@@ -2,10 +2,10 @@
 use Rattle.std.specs.Prelude.{Bool, true, false, cond, List, [], ◌∷◌, ℕ, ◌/◌, ◌%◌}
 use Rattle.std.proofs.Math.Option.{Option, none, some}
 use Rattle.model.specs.Lists.{any, collect}
-use Rattle.model.specs.Constraints.{Constraint, eq, neq, rev, cat, sub, len, regular, duration, variables}
+use Rattle.model.specs.Constraints.{Constraint, eq, neq, rev, cat, sub, len, regular, variables}
 use Rattle.model.specs.Reading.{decode, repeats}
 use Rattle.records.specs.declared.Record.{Record}
-use Rattle.records.specs.declared.Record.TheVariants.{Eq, Neq, Rev, Cat, Sub, Len, Regular, Duration}
+use Rattle.records.specs.declared.Record.TheVariants.{Eq, Neq, Rev, Cat, Sub, Len, Regular}
 use Rattle.records.specs.declared.Decoded.{Decoded}
 use Rattle.records.specs.declared.Decoded.TheVariants.{Constraint as One, NotOne}
 
@@ -22,7 +22,6 @@ constraint_of (Cat x y z) = cat x y z
 constraint_of (Sub x y n) = sub x y n
 constraint_of (Len x n) = len x n
 constraint_of (Regular x d) = regular x d
-constraint_of (Duration x v) = duration x v
 
 -- the constraint that decoding took out, if there is one
 unfoldable pub decoded_of : Decoded → Option Constraint
@@ -38,12 +37,11 @@ is_some (some x) = true
 unfoldable pub repeated_in : List Constraint → ℕ
 repeated_in cs = cond (any (λ c. repeats (variables c)) cs) 8 0
 
--- "7: a kind outside 1 to 7, an argument naming nothing, or an unused one not 0": 7 where some record is no constraint. By ticket 6 "Refusal 7 now lets kind
--- 8 pass, and is given for such a record when v is 0 or k is under 11."
+-- "7: a kind outside 1 to 7, an argument naming nothing, or an unused one not 0": 7 where some record is no constraint
 unfoldable pub refusal_in : Option (List Constraint) → ℕ
 refusal_in none = 7
 refusal_in (some cs) = repeated_in cs
 
--- the refusal that these records have, 0 for none, in a file of k symbols, s strings, t numbers and d automata
-unfoldable pub refusal_of : ℕ → ℕ → ℕ → ℕ → List (List ℕ) → ℕ
-refusal_of k s t d records = refusal_in (collect (decode k s t d) records)
+-- the refusal that these records have, 0 for none, in a file of s strings, t numbers and d automata
+unfoldable pub refusal_of : ℕ → ℕ → ℕ → List (List ℕ) → ℕ
+refusal_of s t d records = refusal_in (collect (decode s t d) records)

@@ -8,6 +8,9 @@
 //
 // Assumes nothing. `requires` asks what refusals 3, 5, 6 and 10 leave: at most 64 symbols, an automaton's whole bytes, and no bit at k or above at a place;
 // the kinds of the automaton's symbols; and that the row is tidy.
+
+#![tactic(auto)]
+
 ghost use Rattle.std.specs.Prelude.{◌≡◌, cond, true, false, [], ◌∷◌, ◌<◌, ◌≤◌, ◌+◌, ◌*◌, ◌/◌, ◌%◌, length};
 ghost use Rattle.std.specs.Int.Bits.{bit_and};
 ghost use Rattle.model.specs.Words.{bit, word, none_from};

@@ -1,6 +1,9 @@
 // Rev(X, Y): X is Y read backwards.
 //
 // Assumes nothing. Requires two strings with tidy rows.
+
+#![tactic(auto)]
+
 ghost use Rattle.std.specs.Prelude.{◌≡◌, ◌≢◌, false, [], ◌∷◌, ◌<◌, ◌≤◌, ◌+◌, ◌*◌, length};
 ghost use Rattle.model.specs.Words.{several};
 ghost use Rattle.model.specs.Domains.{row};

@@ -3,6 +3,9 @@
 // touches.
 //
 // Assumes nothing. `requires` speaks of sizes, and of words that have a value.
+
+#![tactic(auto)]
+
 ghost use Rattle.std.specs.Prelude.{◌≡◌, ◌⊎◌, map, ◌+◌, ◌*◌, ◌≤◌, ◌<◌, length, set, replicate, drop};
 ghost use Rattle.model.specs.Words.{word};
 ghost use Rattle.model.specs.Layout.{little};

@@ -1,6 +1,9 @@
 // Rounds of steps on a lent table, until one strikes nothing: the table then has as many bits as before the round.
 //
 // Assumes nothing. `requires` asks what refusals 1 to 10 leave.
+
+#![tactic(auto)]
+
 ghost use Rattle.std.specs.Prelude.{◌≡◌, true, ◌*◌, ◌≤◌, length};
 ghost use Rattle.model.specs.Words.{size};
 ghost use Rattle.model.specs.Constraints.{Problem, width};

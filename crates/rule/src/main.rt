@@ -4,6 +4,9 @@
 // or 0, and after a 0 the bytes of the automaton. Nothing is printed for an input without a byte.
 //
 // Assumes libc's `read` and `write`, the axioms that the crate's own check counts. Which bytes these are is the promise of `compile` in crates/cobleskeg.
+
+#![tactic(auto)]
+
 ghost use Rattle.std.specs.Prelude.{◌<◌, length};
 
 use libc::{STDIN_FILENO, STDOUT_FILENO};

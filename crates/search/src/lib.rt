@@ -1,6 +1,9 @@
 // The search of a file's table, node by node in the order of the tree, over the three tables of lent room (crate `room`). No recursion: the room is the stack.
 //
 // Assumes nothing. `requires` asks what refusals 1 to 8, 12 and 13 leave.
+
+#![tactic(auto)]
+
 ghost use Rattle.std.specs.Prelude.{◌≡◌, ◌++◌, map, ◌*◌, ◌≤◌, length, replicate, drop};
 ghost use Rattle.model.specs.Layout.{little};
 ghost use Rattle.model.specs.Reading.{pieces};

@@ -7,6 +7,9 @@
 //     1   Settle by index
 //     2   Unpack alone, to be taken off the first two
 //     3   Index alone
+
+#![tactic(auto)]
+
 ghost use Rattle.std.specs.Prelude.{◌≤◌, length};
 
 use libc::{STDIN_FILENO, STDOUT_FILENO};

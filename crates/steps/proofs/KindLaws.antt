@@ -12,7 +12,7 @@ use lib.ListN.{length, get_or}
 use borrow.Author.Tests.{eq-eqb}
 use Rattle.model.specs.Lists.{from, upto}
 use Rattle.model.specs.Domains.{str, num, row}
-use Rattle.model.specs.Constraints.{Problem, Constraint, Choice, Automaton, no_automaton, width, variables, meets, accepts, eq, neq, rev, cat, sub, len, regular, duration}
+use Rattle.model.specs.Constraints.{Problem, Constraint, Choice, Automaton, no_automaton, width, variables, meets, accepts, eq, neq, rev, cat, sub, len, regular}
 use Rattle.model.specs.Rounds.{variables_of}
 use Rattle.model.specs.Layout.{Bytes}
 use Rattle.model.specs.Reading.{repeats}
@@ -27,7 +27,7 @@ use Rattle.rows.proofs.NamedLaws.{places}
 use Rattle.rows.proofs.NamedLaws.{named_kind, one_below, more-below, none_below, one-distinct, two-distinct, three-distinct}
 use Rattle.layout.specs.declared.Parts.{Parts}
 use Rattle.records.specs.declared.Record.{Record}
-use Rattle.records.specs.declared.Record.TheVariants.{Eq, Neq, Rev, Cat, Sub, Len, Regular, Duration}
+use Rattle.records.specs.declared.Record.TheVariants.{Eq, Neq, Rev, Cat, Sub, Len, Regular}
 use Rattle.records.specs.Records.{constraint_of}
 use Rattle.records.proofs.RecordLaws.{two_repeat, two-and-number_repeat, three_repeat}
 use Rattle.format.specs.Accepting.{content_of, problem_in, Usable}
@@ -273,27 +273,3 @@ module _ (file : List ℕ) (p : Parts) (ks : List ℕ) (r : Record) (T : List �
 
     pub regular-of : {U : List ℕ} {n : Change} → Narrows P (regular x i) T U n → Narrows P (constraint_of r) T U n
     regular-of s = of-record (regular x i) is-regular s
-
-  -- ---- a version: a number that the record holds, and no variable
-
-  module _ (x v : ℕ) (e : r ≡ Duration x v) where
-    abbrev is-duration : constraint_of r ≡ duration x v
-    unfolding constraint_of
-    is-duration = ap constraint_of e
-
-    duration-string : x < P.strings
-    unfolding variables
-    duration-string = string-at (duration x v) is-duration x (Memᴰ.head refl)
-
-    pub duration_asks : (64 * x + 64 ≤ length T) × Tidy (row T x)
-    unfolding variables
-    duration_asks =
-        let f = duration-string in
-        let l = long in
-        (omega arith, tidy-at (duration x v) is-duration x (Memᴰ.head refl))
-
-    pub duration-narrows : {U : List ℕ} {n : Change} → InPlace [] (duration 0 v) (x ∷ []) [] T U n → Narrows P (constraint_of r) T U n
-    unfolding variables_of alone upto from variables meets
-    duration-narrows {U} {n} s = of-record (duration x v) is-duration (narrows P (duration x v) (duration 0 v) [] (x ∷ []) []
-        (named_kind P (duration x v) (duration 0 v) [] (x ∷ []) [] refl refl (λ α. refl) (one_below P.strings duration-string) (none_below P.numbers) (one-distinct x) tt)
-        refl T U long n s)

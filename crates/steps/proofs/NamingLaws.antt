@@ -10,7 +10,7 @@ use Rattle.model.specs.Domains.{Variable, str, num}
 use Rattle.model.specs.Constraints.{Constraint, variables}
 use Rattle.laws.specs.Inclusion.{In}
 use Rattle.records.specs.declared.Record.{Record}
-use Rattle.records.specs.declared.Record.TheVariants.{Eq, Neq, Rev, Cat, Sub, Len, Regular, Duration}
+use Rattle.records.specs.declared.Record.TheVariants.{Eq, Neq, Rev, Cat, Sub, Len, Regular}
 use Rattle.records.specs.Records.{constraint_of}
 use Rattle.steps.specs.declared.Names.{Names}
 use Rattle.steps.specs.Names.{texts, numbers, Naming, Inside}
@@ -73,7 +73,3 @@ module _ (s : ℕ) {r : Record} {m : Names} {x y : ℕ} where
   pub regular-names : r ≡ Regular x y → (m.strings ≡ x ∷ 0 ∷ 0 ∷ []) × (m.count ≡ 1) × (numbers m ≡ []) → Naming s (constraint_of r) m
   unfolding constraint_of variables
   regular-names e d = unnumbered-names s (constraint_of r) m (x ∷ 0 ∷ 0 ∷ []) 1 d (omega arith) (ap (λ z. variables (constraint_of z)) e)
-
-  pub duration-names : r ≡ Duration x y → (m.strings ≡ x ∷ 0 ∷ 0 ∷ []) × (m.count ≡ 1) × (numbers m ≡ []) → Naming s (constraint_of r) m
-  unfolding constraint_of variables
-  duration-names e d = unnumbered-names s (constraint_of r) m (x ∷ 0 ∷ 0 ∷ []) 1 d (omega arith) (ap (λ z. variables (constraint_of z)) e)

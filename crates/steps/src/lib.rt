@@ -2,6 +2,9 @@
 // first, and where no choice is left it strikes all their bits. `step` is `apply` with the count of the bits that it strikes.
 //
 // Assumes nothing. `requires` asks what refusals 1 to 10 leave, and that positions lie inside the table.
+
+#![tactic(auto)]
+
 ghost use Rattle.std.specs.Prelude.{◌≡◌, true, [], ◌∷◌, ◌+◌, ◌*◌, ◌<◌, ◌≤◌, length, replicate};
 ghost use Rattle.model.specs.Words.{size};
 ghost use Rattle.model.specs.Domains.{row};
@@ -71,7 +74,6 @@ pub fn narrow(
         ),
         records::Record::Len(x, n) => len::narrow(table, x as usize, 64 * p.s + n as usize),
         records::Record::Regular(x, d) => regular_at(file, p, kinds, table, x as usize, d as usize),
-        records::Record::Duration(x, v) => duration::narrow(table, x as usize, v as usize),
     }
 }
 
@@ -125,7 +127,6 @@ pub fn of_record(r: records::Record, s: usize) -> Names
         ),
         records::Record::Len(x, n) => numbered([x as usize, 0, 0], 1, 64 * s + n as usize),
         records::Record::Regular(x, _) => unnumbered([x as usize, 0, 0], 1),
-        records::Record::Duration(x, _) => unnumbered([x as usize, 0, 0], 1),
     }
 }
 

@@ -130,7 +130,7 @@ module _ (file : List ℕ) (p : Parts) (T : List ℕ) (j w : ℕ) (bd : Words T)
   abbrev records : List ℕ
   records = take (p.automata_at - p.constraints_at) (drop p.constraints_at file)
 
-  module _ (less : j < p.c) (o : Decoded) (e : decoded_of o ≡ decode p.k p.s p.t p.d (part (4 * j) 4 records)) where
+  module _ (less : j < p.c) (o : Decoded) (e : decoded_of o ≡ decode p.s p.t p.d (part (4 * j) 4 records)) where
     pub never-none : {A : Type 0} → o ≡ NotOne → A
     never-none q = absurd (none-ne-some _ (sym (is_none e q) ∙ usable-record file p pre.0 j less))
 

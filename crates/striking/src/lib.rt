@@ -2,6 +2,9 @@
 // rows that a constraint names are tidy, or empty, and its step says by itself whether it struck. Bits are counted where a string is trimmed for the first time.
 //
 // Assumes nothing. `requires` asks what refusals 1 to 11 leave, and what is known of trimmed strings; within the crate also that positions lie inside the table.
+
+#![tactic(auto)]
+
 ghost use Rattle.std.specs.Prelude.{◌≡◌, true, [], ◌∷◌, ◌+◌, ◌*◌, ◌<◌, ◌≤◌, length};
 ghost use Rattle.model.specs.Operations.{step_at};
 ghost use Rattle.laws.specs.Inclusion.{In};
@@ -156,8 +159,7 @@ pub fn step(
     }
     let start = p.constraints_at;
     let end = p.automata_at;
-    let records::Decoded::Constraint(r) = records::at(&file[start..end], j, p.s, p.t, p.d, p.k)
-    else {
+    let records::Decoded::Constraint(r) = records::at(&file[start..end], j, p.s, p.t, p.d) else {
         return Struck {
             changed: false,
             trimmed,

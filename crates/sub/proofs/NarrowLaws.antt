@@ -95,15 +95,15 @@ module _ (T : List ℕ) (bd : Words T) (x y i : ℕ) (fx : 64 * x + 64 ≤ i) (f
           word_i : word U i ≡ n
           word_i = let a = v.only.size in let b = w.only.size in ap (λ (L : List ℕ). word L i) put.0 ∙ get_or-set_same T₂ i n 0 (omega arith)
 
-          word-k : (k : ℕ) → k ≢ i → word U k ≡ word T₂ k
-          word-k k d = ap (λ (L : List ℕ). word L k) put.0 ∙ get_or-set_other T₂ i k n 0 d
+          word_k : (k : ℕ) → k ≢ i → word U k ≡ word T₂ k
+          word_k k d = ap (λ (L : List ℕ). word L k) put.0 ∙ get_or-set_other T₂ i k n 0 d
 
           row-z : (z : ℕ) → 64 * z + 64 ≤ i → row U z ≡ row T₂ z
           row-z z h =
               let a = v.only.size in
               let b = w.only.size in
               let l = size in
-              same_row T₂ z U (omega arith) (omega arith) (λ j k. word-k (64 * z + j) (omega arith))
+              same_row T₂ z U (omega arith) (omega arith) (λ j k. word_k (64 * z + j) (omega arith))
 
           row-x : row U x ≡ row T₁ x
           row-x = let b = w.only.size in row-z x fx ∙ only-other T₁ y T₂ v.only x (omega arith) (λ e. apart (sym e))
@@ -116,7 +116,7 @@ module _ (T : List ℕ) (bd : Words T) (x y i : ℕ) (fx : 64 * x + 64 ≤ i) (f
 
           pub step-done : InPlace [] (sub 0 1 0) (x ∷ y ∷ []) (i ∷ []) T U (record { left = true; x = p; y = q; z = c })
           step-done = part_left (sub 0 1 0) x y i T U size
-              (λ k ox oy d. word-k k d ∙ only_out T₁ y T₂ v.only k oy ∙ only_out T x T₁ w.only k ox)
+              (λ k ox oy d. word_k k d ∙ only_out T₁ y T₂ v.only k oy ∙ only_out T x T₁ w.only k ox)
               (ap₂ (λ (a b : List ℕ). a ++ b) row-x (ap₂ (λ (a : List ℕ) (b : ℕ). a ++ (b ∷ [])) new-y word_i)
               ∙ sub-some (row T x) (row T y) (word T i) (row-length T x (omega arith)) (row-length T y (omega arith)) (row_words T bd x) (row_words T bd y)
               (bd i) tx least low-y n r started

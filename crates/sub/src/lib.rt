@@ -1,6 +1,9 @@
 // Sub(X, Y, N): Y is the part of X starting at place N.
 //
 // Assumes nothing. A step in place on rows that are tidy. `off` is N - 1, the symbols of X before the part; a start is left where Y's least length fits there.
+
+#![tactic(auto)]
+
 ghost use Rattle.std.specs.Prelude.{◌≡◌, ◌≢◌, [], ◌∷◌, ◌+◌, ◌*◌, ◌≤◌, ◌<◌, length, replicate};
 ghost use Rattle.model.specs.Domains.{row};
 ghost use Rattle.model.specs.Constraints.{sub};

@@ -4,7 +4,7 @@ use mathlib.Core.Bool.{Bool, true, false, not, false≢true}
 use mathlib.Core.List.{List}
 use Prim.Native.Nat.{ℕ, ◌+◌, ◌*◌, ◌/◌, ◌%◌, ◌<◌}
 use native.Mathlib.Omega.{arith}
-use borrow.Author.Tests.{eq-eqb, ne_eqb, not_true, not_false}
+use borrow.Author.Tests.{eq-eqb, ne_eqb, not-true, not-false}
 use borrow.Author.Count.{below_more}
 use Rattle.model.specs.Lists.{from, upto}
 use Rattle.model.specs.Words.{word, none_from}
@@ -33,7 +33,7 @@ low-start k f = record { passed = λ j h. absurd (omega arith) }
 
 -- a turn whose word w passes
 pub low_step : (k : ℕ) (f : ℕ → ℕ) (i : ℕ) (w : ℕ) (r : Bool) → LowTo k f i → w ≡ f i → r ≡ low_at k i w → not r ≡ false → LowTo k f (i + 1)
-low_step k f i w r l e q n = record { passed = below_more _ _ l.passed (ap (low_at k i) (sym e) ∙ sym q ∙ not_false r n) }
+low_step k f i w r l e q n = record { passed = below_more _ _ l.passed (ap (low_at k i) (sym e) ∙ sym q ∙ not-false r n) }
 
 module _ (k s : ℕ) (T : List ℕ) (f : ℕ → ℕ) (same : (i : ℕ) → i < 64 * s → f i ≡ word T i) where
   -- every word has passed
@@ -52,7 +52,7 @@ module _ (k s : ℕ) (T : List ℕ) (f : ℕ → ℕ) (same : (i : ℕ) → i < 
   some-high i w r h e q n = go (symbols_below k s T) refl
     where
       high : low_at k i w ≡ false
-      high = sym q ∙ not_true r n
+      high = sym q ∙ not-true r n
 
       place : i % 64 ≡ 0 → ⊥
       place z = false≢true (sym high ∙ length-word-low k i w z)

@@ -1,6 +1,9 @@
 // The words of a table: read from a file's bytes, and looked at for symbols outside the alphabet (refusals 6 and 10).
 //
 // Assumes nothing. `requires` asks what refusals 3, 4 and 9 leave: counts in range, and room for the words that are read.
+
+#![tactic(auto)]
+
 ghost use Rattle.std.specs.Prelude.{◌≡◌, map, ℕ, ◌≤◌, ◌+◌, ◌*◌, length};
 ghost use Rattle.model.specs.Layout.{little};
 ghost use Rattle.model.specs.Reading.{pieces, symbols_below};

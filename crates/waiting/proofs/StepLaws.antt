@@ -30,7 +30,7 @@ use Rattle.shortcuts.proofs.LocalLaws.{apart-unchanged}
 use Rattle.shortcuts.proofs.RunningLaws.{dead-length}
 use Rattle.layout.specs.declared.Parts.{Parts}
 use Rattle.records.specs.declared.Record.{Record}
-use Rattle.records.specs.declared.Record.TheVariants.{Eq, Neq, Rev, Cat, Sub, Len, Regular, Duration}
+use Rattle.records.specs.declared.Record.TheVariants.{Eq, Neq, Rev, Cat, Sub, Len, Regular}
 use Rattle.records.specs.declared.Decoded.{Decoded}
 use Rattle.records.specs.declared.Decoded.TheVariants.{Constraint as One}
 use Rattle.records.specs.Records.{constraint_of, decoded_of}
@@ -69,7 +69,7 @@ module _ (file : List ℕ) (p : Parts) (ix T : List ℕ) (j : ℕ) (bytes : Byte
   abbrev records : List ℕ
   records = take (p.automata_at - p.constraints_at) (drop p.constraints_at file)
 
-  pub taken : (o : Decoded) → decoded_of o ≡ decode p.k p.s p.t p.d (part (4 * j) 4 records) → (r : Record) → o ≡ One r → Taken file p ix T j r
+  pub taken : (o : Decoded) → decoded_of o ≡ decode p.s p.t p.d (part (4 * j) 4 records) → (r : Record) → o ≡ One r → Taken file p ix T j r
   taken o e r q = record {
     usable = pre.0;
     formed = (usable-sound file p pre.0 bytes).well_formed;
@@ -92,7 +92,6 @@ names-string (Cat x y z) = (x, Memᴰ.head refl)
 names-string (Sub x y n) = (x, Memᴰ.head refl)
 names-string (Len x n) = (x, Memᴰ.head refl)
 names-string (Regular x d) = (x, Memᴰ.head refl)
-names-string (Duration x v) = (x, Memᴰ.head refl)
 
 -- ---- what its step asks, and the ways out of it
 

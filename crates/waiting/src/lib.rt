@@ -2,6 +2,9 @@
 // What waits is a word, bit j for constraint j.
 //
 // Assumes nothing. `requires` asks what refusals 1 to 8 leave, the index and the kinds of the file, and what the search knows of the table.
+
+#![tactic(auto)]
+
 ghost use Rattle.std.specs.Prelude.{◌≡◌, true, false, ℕ, ◌+◌, ◌*◌, ◌<◌, ◌≤◌, length};
 ghost use Rattle.model.specs.Words.{bit};
 ghost use Rattle.laws.specs.Lent.{lendable};
@@ -36,8 +39,7 @@ fn step(
 {
     let start = p.constraints_at;
     let end = p.automata_at;
-    let records::Decoded::Constraint(r) = records::at(&file[start..end], j, p.s, p.t, p.d, p.k)
-    else {
+    let records::Decoded::Constraint(r) = records::at(&file[start..end], j, p.s, p.t, p.d) else {
         return Turn::Quiet;
     };
     let n = steps::narrow(file, p, kinds, r, table);

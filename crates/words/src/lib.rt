@@ -1,6 +1,9 @@
 // One word of 64 bits as a set of the numbers 0 to 63.
 //
 // Assumes nothing. A position is a `usize` below 64; a word that is asked for its lowest or highest bit has one.
+
+#![tactic(auto)]
+
 ghost use Rattle.std.specs.Prelude.{◌≡◌, true, ℕ, ◌<◌, ◌≤◌, ◌+◌, ◌-◌, ◌^◌, length};
 ghost use Rattle.model.specs.Words.{bit, bits, several, none_from};
 ghost use Rattle.words.specs.Ends.{Highest, Lowest};

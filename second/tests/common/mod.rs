@@ -3,16 +3,6 @@
 
 pub type Row = [u64; 64];
 
-/// A record of each kind up to Len, on three strings and a number.
-pub const RELATIONS: [[u8; 4]; 6] = [
-    [1, 0, 1, 0],
-    [2, 0, 1, 0],
-    [3, 0, 2, 0],
-    [4, 0, 1, 2],
-    [5, 2, 0, 0],
-    [6, 1, 0, 0],
-];
-
 /// A small xorshift generator.
 pub struct Random(u64);
 

@@ -1,4 +1,4 @@
-use borrow.Author.Tests.{not_true, not_false}
+use borrow.Author.Tests.{not-true, not-false}
 use native.Mathlib.Omega.{arith}
 use Rattle.laws.proofs.TableLaws.{words_of}
 use Rattle.cobleskeg.proofs.AnswerLaws.{fit}
@@ -28,19 +28,19 @@ is-of-file-requires : tie.Need-is-of-file-requires
 is-of-file-requires c κs = by-index_asks _ _ c.before.before.before.before.before.before.before.before.accept.ensures c.before.before.before.before.before.before.before.before.before.before.before.before.args.index.now c.before.before.before.before.before.before.before.before.before.before.before.before.args.table.now _ c.before.before.before.before.before.before.p.given.1 _ c.before.before.before.unlendable.ensures c.before.before.if1.false c.if2.false
 
 returns-3 : tie.Need-returns-3
-returns-3 c = by-index_nineteen _ _ c.before.before.before.before.before.before.before.before.before.before.accept.ensures c.before.before.before.before.before.before.before.before.before.before.before.before.before.before.args.index.now c.before.before.before.before.before.before.before.before.before.before.before.before.before.before.args.table.now _ c.before.before.before.before.before.before.before.before.p.given.1 _ c.before.before.before.before.before.unlendable.ensures c.before.before.before.before.if1.false c.before.before.if2.false _ c.before.is-of-file.ensures (not_true _ c.if3.true)
+returns-3 c = by-index_nineteen _ _ c.before.before.before.before.before.before.before.before.before.before.accept.ensures c.before.before.before.before.before.before.before.before.before.before.before.before.before.before.args.index.now c.before.before.before.before.before.before.before.before.before.before.before.before.before.before.args.table.now _ c.before.before.before.before.before.before.before.before.p.given.1 _ c.before.before.before.before.before.unlendable.ensures c.before.before.before.before.if1.false c.before.before.if2.false _ c.before.is-of-file.ensures (not-true _ c.if3.true)
 
 settle-requires : tie.Need-settle-requires
-settle-requires c κs = by-index-there _ _ c.before.before.before.before.before.before.before.before.before.before.before.accept.ensures c.before.before.before.before.before.before.before.before.before.before.before.before.before.before.before.args.index.now c.before.before.before.before.before.before.before.before.before.before.before.before.before.before.before.args.table.now _ c.before.before.before.before.before.before.before.before.before.p.given.1 _ c.before.before.before.before.before.before.unlendable.ensures c.before.before.before.before.before.if1.false c.before.before.before.if2.false _ c.before.before.is-of-file.ensures (not_false _ c.before.if3.false)
+settle-requires c κs = by-index-there _ _ c.before.before.before.before.before.before.before.before.before.before.before.accept.ensures c.before.before.before.before.before.before.before.before.before.before.before.before.before.before.before.args.index.now c.before.before.before.before.before.before.before.before.before.before.before.before.before.before.before.args.table.now _ c.before.before.before.before.before.before.before.before.before.p.given.1 _ c.before.before.before.before.before.before.unlendable.ensures c.before.before.before.before.before.if1.false c.before.before.before.if2.false _ c.before.before.is-of-file.ensures (not-false _ c.before.if3.false)
 
 every-value-requires : tie.Need-every-value-requires
-every-value-requires c κs = by-index-rows _ _ c.before.before.before.before.before.before.before.before.before.before.before.before.before.before.before.accept.ensures c.before.before.before.before.before.before.before.before.before.before.before.before.before.before.before.before.before.before.before.args.index.now c.before.before.before.before.before.before.before.before.before.before.before.before.before.before.before.before.before.before.before.args.table.now _ c.before.before.before.before.before.before.before.before.before.before.before.before.before.p.given.1 _ c.before.before.before.before.before.before.before.before.before.before.unlendable.ensures c.before.before.before.before.before.before.before.before.before.if1.false c.before.before.before.before.before.before.before.if2.false _ c.before.before.before.before.before.before.is-of-file.ensures (not_false _ c.before.before.before.before.before.if3.false) _ _ c.before.before.before.settle.ensures (λ i. (c.before.before.before.before.before.before.before.before.before.before.before.before.before.before.before.before.before.before.shared-slice-known.given i).fits) (words_of c.before.before.before.before.before.before.before.before.before.before.before.before.before.before.before.before.before.before.before.args.table.now (λ i. (c.before.before.before.before.before.before.before.before.before.before.before.before.before.before.before.before.slice-known.given i).fits))
+every-value-requires c κs = by-index-rows _ _ c.before.before.before.before.before.before.before.before.before.before.before.before.before.before.before.accept.ensures c.before.before.before.before.before.before.before.before.before.before.before.before.before.before.before.before.before.before.before.args.index.now c.before.before.before.before.before.before.before.before.before.before.before.before.before.before.before.before.before.before.before.args.table.now _ c.before.before.before.before.before.before.before.before.before.before.before.before.before.p.given.1 _ c.before.before.before.before.before.before.before.before.before.before.unlendable.ensures c.before.before.before.before.before.before.before.before.before.if1.false c.before.before.before.before.before.before.before.if2.false _ c.before.before.before.before.before.before.is-of-file.ensures (not-false _ c.before.before.before.before.before.if3.false) _ _ c.before.before.before.settle.ensures (λ i. (c.before.before.before.before.before.before.before.before.before.before.before.before.before.before.before.before.before.before.shared-slice-known.given i).fits) (words_of c.before.before.before.before.before.before.before.before.before.before.before.before.before.before.before.before.before.before.before.args.table.now (λ i. (c.before.before.before.before.before.before.before.before.before.before.before.before.before.before.before.before.slice-known.given i).fits))
 
 returns-4 : tie.Need-returns-4
 returns-4 c = by-index-early _ _ c.before.before.before.accept.ensures _ _ _ c.before.n.given.1
 
 returns-5 : tie.Need-returns-5
-returns-5 c = by-index-done _ _ c.before.before.before.before.before.before.before.before.before.before.before.before.before.before.before.before.accept.ensures c.before.before.before.before.before.before.before.before.before.before.before.before.before.before.before.before.before.before.before.before.args.index.now c.before.before.before.before.before.before.before.before.before.before.before.before.before.before.before.before.before.before.before.before.args.table.now _ c.before.before.before.before.before.before.before.before.before.before.before.before.before.before.p.given.1 _ c.before.before.before.before.before.before.before.before.before.before.before.unlendable.ensures c.before.before.before.before.before.before.before.before.before.before.if1.false c.before.before.before.before.before.before.before.before.if2.false _ c.before.before.before.before.before.before.before.is-of-file.ensures (not_false _ c.before.before.before.before.before.before.if3.false) _ _ c.before.before.before.before.settle.ensures (λ i. (c.before.before.before.before.before.before.before.before.before.before.before.before.before.before.before.before.before.before.before.shared-slice-known.given i).fits) (words_of c.before.before.before.before.before.before.before.before.before.before.before.before.before.before.before.before.before.before.before.before.args.table.now (λ i. (c.before.before.before.before.before.before.before.before.before.before.before.before.before.before.before.before.before.slice-known.given i).fits)) _ c.every_value.ensures
+returns-5 c = by-index-done _ _ c.before.before.before.before.before.before.before.before.before.before.before.before.before.before.before.before.accept.ensures c.before.before.before.before.before.before.before.before.before.before.before.before.before.before.before.before.before.before.before.before.args.index.now c.before.before.before.before.before.before.before.before.before.before.before.before.before.before.before.before.before.before.before.before.args.table.now _ c.before.before.before.before.before.before.before.before.before.before.before.before.before.before.p.given.1 _ c.before.before.before.before.before.before.before.before.before.before.before.unlendable.ensures c.before.before.before.before.before.before.before.before.before.before.if1.false c.before.before.before.before.before.before.before.before.if2.false _ c.before.before.before.before.before.before.before.is-of-file.ensures (not-false _ c.before.before.before.before.before.before.if3.false) _ _ c.before.before.before.before.settle.ensures (λ i. (c.before.before.before.before.before.before.before.before.before.before.before.before.before.before.before.before.before.before.before.shared-slice-known.given i).fits) (words_of c.before.before.before.before.before.before.before.before.before.before.before.before.before.before.before.before.before.before.before.before.args.table.now (λ i. (c.before.before.before.before.before.before.before.before.before.before.before.before.before.before.before.before.before.slice-known.given i).fits)) _ c.every_value.ensures
 
 pub settle-by-index-spec : {M : Type 1} → statement M
 settle-by-index-spec =

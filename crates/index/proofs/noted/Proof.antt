@@ -1,6 +1,6 @@
 use Rattle.index.specs.Index.{position}
 use Rattle.index.proofs.KindLaws.{one_inside, two-inside, three-inside, joined-named}
-use Rattle.index.proofs.KindLaws.{names-eq, names-neq, names-rev, names-cat, names-sub, names-len, names-regular, names-duration}
+use Rattle.index.proofs.KindLaws.{names-eq, names-neq, names-rev, names-cat, names-sub, names-len, names-regular}
 use borrow.Author.Rules.{rules}
 use Rattle.index.proofs.noted.Statement.{statement}
 use Rattle.index.proofs.noted.Tie as tie
@@ -33,10 +33,6 @@ with-requires : tie.Need-with-requires
 unfolding position
 with-requires c κs = one_inside c.before.before.before.requires.1 (names-regular c.before.r7.given.1)
 
-with-requires-2 : tie.Need-with-requires-2
-unfolding position
-with-requires-2 c κs = one_inside c.before.before.before.requires.1 (names-duration c.before.r8.given.1)
-
 returns : tie.Need-returns
 unfolding position
 returns c = joined-named c.before.before.before.before.args.s (names-eq c.before.before.r.given.1) c.with_two.ensures
@@ -65,10 +61,6 @@ returns-7 : tie.Need-returns-7
 unfolding position
 returns-7 c = joined-named c.before.before.before.before.args.s (names-regular c.before.before.r7.given.1) c.with.ensures
 
-returns-8 : tie.Need-returns-8
-unfolding position
-returns-8 c = joined-named c.before.before.before.before.args.s (names-duration c.before.before.r8.given.1) c.with2.ensures
-
 pub noted-spec : {M : Type 1} → statement M
 noted-spec =
     tie.close
@@ -77,4 +69,4 @@ noted-spec =
     with-two-requires-2 (λ c. search rules) (λ c. search rules) (λ c. search rules) with-two-requires-3 (λ c. search rules) (λ c. search rules)
     (λ c. search rules) (λ c. search rules) with-three-requires (λ c. search rules) (λ c. search rules) (λ c. search rules) (λ c. search rules)
     (λ c. search rules) with-three-requires-2 (λ c. search rules) (λ c. search rules) (λ c. search rules) (λ c. search rules) with-two-requires-4
-    (λ c. search rules) (λ c. search rules) with-requires (λ c. search rules) (λ c. search rules) with-requires-2 returns returns-2 returns-3 returns-4 returns-5 returns-6 returns-7 returns-8)
+    (λ c. search rules) (λ c. search rules) with-requires returns returns-2 returns-3 returns-4 returns-5 returns-6 returns-7)

@@ -1,7 +1,7 @@
 use mathlib.Core.Path.{refl}
 use native.Mathlib.Omega.{arith}
 use Rattle.index.specs.Index.{position}
-use Rattle.index.proofs.KindLaws.{names-eq, names-neq, names-rev, names-cat, names-sub, names-len, names-regular, names-duration}
+use Rattle.index.proofs.KindLaws.{names-eq, names-neq, names-rev, names-cat, names-sub, names-len, names-regular}
 use Rattle.index.proofs.StandingLaws.{standing}
 use borrow.Author.Rules.{rules}
 use Rattle.index.proofs.positions_of.Statement.{statement}
@@ -35,10 +35,6 @@ returns-7 : tie.Need-returns-7
 unfolding position
 returns-7 c = standing _ (names-regular c.before.before.r7.given.1) (omega arith) refl c.first7.ensures
 
-returns-8 : tie.Need-returns-8
-unfolding position
-returns-8 c = standing _ (names-duration c.before.before.r8.given.1) (omega arith) refl c.first8.ensures
-
 pub positions-of-spec : {M : Type 1} → statement M
 positions-of-spec =
     tie.close
@@ -47,4 +43,4 @@ positions-of-spec =
     (λ c κs. search rules) (λ c. search rules) (λ c. search rules) (λ c. search rules) (λ c κs. search rules) (λ c. search rules) (λ c. search rules)
     (λ c. search rules) (λ c. search rules) (λ c κs. search rules) (λ c. search rules) (λ c. search rules) (λ c. search rules) (λ c. search rules)
     (λ c. search rules) (λ c κs. search rules) (λ c. search rules) (λ c. search rules) (λ c. search rules) (λ c. search rules) (λ c κs. search rules)
-    (λ c. search rules) (λ c. search rules) (λ c κs. search rules) (λ c. search rules) (λ c. search rules) (λ c κs. search rules) returns returns-2 returns-3 returns-4 returns-5 returns-6 returns-7 returns-8)
+    (λ c. search rules) (λ c. search rules) (λ c κs. search rules) returns returns-2 returns-3 returns-4 returns-5 returns-6 returns-7)

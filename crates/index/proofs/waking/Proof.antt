@@ -1,6 +1,6 @@
 use Rattle.index.specs.Index.{position}
 use Rattle.index.proofs.KindLaws.{one_inside, two-inside, three-inside, union-one, union-two, union-three}
-use Rattle.index.proofs.KindLaws.{names-eq, names-neq, names-rev, names-cat, names-sub, names-len, names-regular, names-duration}
+use Rattle.index.proofs.KindLaws.{names-eq, names-neq, names-rev, names-cat, names-sub, names-len, names-regular}
 use borrow.Author.Rules.{rules}
 use Rattle.index.proofs.waking.Statement.{statement}
 use Rattle.index.proofs.waking.Tie as tie
@@ -54,13 +54,6 @@ if-changed-requires c κs =
     let i = one_inside pre.2 (names-regular c.before.r7.given.1) in
     (pre.0, i)
 
-if-changed-requires-2 : tie.Need-if-changed-requires-2
-unfolding position
-if-changed-requires-2 c κs =
-    let pre = c.before.before.before.before.requires in
-    let i = one_inside pre.2 (names-duration c.before.r8.given.1) in
-    (pre.0, i)
-
 returns : tie.Need-returns
 unfolding position
 returns c =
@@ -103,12 +96,6 @@ returns-7 c =
     let a = c.before.before.before.before.before.args in
     union-one a.s a.ix.now a.n (names-regular c.before.before.r7.given.1) c.if-changed.ensures
 
-returns-8 : tie.Need-returns-8
-unfolding position
-returns-8 c =
-    let a = c.before.before.before.before.before.args in
-    union-one a.s a.ix.now a.n (names-duration c.before.before.r8.given.1) c.if-changed2.ensures
-
 pub waking-spec : {M : Type 1} → statement M
 waking-spec =
     tie.close
@@ -117,4 +104,4 @@ waking-spec =
     (λ c. search rules) (λ c. search rules) (λ c. search rules) two-requires-3 (λ c. search rules) (λ c. search rules) (λ c. search rules)
     (λ c. search rules) three-requires (λ c. search rules) (λ c. search rules) (λ c. search rules) (λ c. search rules) (λ c. search rules) three-requires-2
     (λ c. search rules) (λ c. search rules) (λ c. search rules) (λ c. search rules) two-requires-4 (λ c. search rules) (λ c. search rules)
-    if-changed-requires (λ c. search rules) (λ c. search rules) if-changed-requires-2 returns returns-2 returns-3 returns-4 returns-5 returns-6 returns-7 returns-8)
+    if-changed-requires returns returns-2 returns-3 returns-4 returns-5 returns-6 returns-7)

@@ -1,4 +1,4 @@
-use Rattle.measure.proofs.StepLaws.{asked-two, asked-cat, asked-sub, asked-len, asked-one, tidy-again, strings-kept, number-kept}
+use Rattle.measure.proofs.StepLaws.{asked-two, asked-cat, asked-sub, asked-len, tidy-again, strings-kept, number-kept}
 use Rattle.std.proofs.Common.{rules}
 use Rattle.measure.proofs.step.Statement.{statement}
 use Rattle.measure.proofs.step.Tie as tie
@@ -21,9 +21,6 @@ narrow-requires-5 c κs = asked-sub c.before.before.before.requires
 narrow-requires-6 : tie.Need-narrow-requires-6
 narrow-requires-6 c κs = asked-len c.before.before.before.requires
 
-narrow-requires-7 : tie.Need-narrow-requires-7
-narrow-requires-7 c κs = asked-one c.before.before.before.requires
-
 returns : tie.Need-returns
 returns c = tidy-again c.before.before.before.before.before.before.requires c.before.before.tidy.ensures
 
@@ -45,14 +42,10 @@ returns-6 c = number-kept c.before.before.before.before.before.before.requires c
 returns-7 : tie.Need-returns-7
 returns-7 c = number-kept c.before.before.before.before.before.before.requires c.before.before.narrow6.ensures
 
-returns-9 : tie.Need-returns-9
-returns-9 c = strings-kept c.before.before.before.before.before.before.requires c.before.before.narrow7.ensures
-
 pub step_spec : {M : Type 1} → statement M
 step_spec =
     tie.close
     (tie.spec
     (λ c κs. search rules) narrow-requires narrow-requires-2 narrow-requires-3 narrow-requires-4 narrow-requires-5 narrow-requires-6 (λ c κs. search rules)
-    narrow-requires-7 (λ c. search rules) returns (λ c. search rules) returns-2 (λ c. search rules) returns-3 (λ c. search rules) returns-4
-    (λ c. search rules) returns-5 (λ c. search rules) returns-6 (λ c. search rules) returns-7 (λ c. search rules) (λ c. search rules) (λ c. search rules)
-    returns-9 (λ c. search rules))
+    (λ c. search rules) returns (λ c. search rules) returns-2 (λ c. search rules) returns-3 (λ c. search rules) returns-4 (λ c. search rules) returns-5
+    (λ c. search rules) returns-6 (λ c. search rules) returns-7 (λ c. search rules) (λ c. search rules) (λ c. search rules))

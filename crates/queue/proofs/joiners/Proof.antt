@@ -1,12 +1,12 @@
 use Rattle.format.proofs.ContentLaws.{usable-sound}
-use borrow.Author.Tests.{not_true, not_false}
+use borrow.Author.Tests.{not-true, not-false}
 use Rattle.queue.proofs.PlaceLaws.{usable-steps, usable-few, places-lent, joins_some, joins_none}
 use borrow.Author.Rules.{rules}
 use Rattle.queue.proofs.joiners.Statement.{statement}
 use Rattle.queue.proofs.joiners.Tie as tie
 
 returns : tie.Need-returns
-returns c = joins_none _ _ _ _ _ (not_true _ c.if1.true)
+returns c = joins_none _ _ _ _ _ (not-true _ c.if1.true)
 
 joined-words-requires : tie.Need-joined-words-requires
 joined-words-requires c κs =
@@ -28,7 +28,7 @@ returns-2 c =
     let u = s.requires.0 in
     let wf = (usable-sound _ _ u (λ i. (c.before.before.before.before.before.shared-slice-known.given i).fits)).well_formed in
     joins_some _ wf (usable-few _ _ u) _ s.requires.1 _ (rw (usable-steps _ _ u) s.requires.2) _ c.before.before.places.ensures _ _ _ _ (search rules) (search rules)
-    c.before.Joined-words.ensures c.joined-words2.ensures _ (not_false _ (search rules))
+    c.before.Joined-words.ensures c.joined-words2.ensures _ (not-false _ (search rules))
 
 pub joiners-spec : {M : Type 1} → statement M
 joiners-spec =

@@ -74,7 +74,7 @@ use Rattle.records.proofs.all_stand.Code as code
 use Rattle.records.proofs.all_stand.Code.Mir as body
 
 abbrev stayed : Stays (fn.ended).signature.params (fn.ended).kept
-stayed = (stay_none_slice (0 ∷ []) tt (plain (λ _. u8)) yes, (stay_none (λ _. usize) yes, (stay_none (λ _. usize) yes, (stay_none (λ _. usize) yes, (stay_none (λ _. usize) yes, tt)))))
+stayed = (stay_none_slice (0 ∷ []) tt (plain (λ _. u8)) yes, (stay_none (λ _. usize) yes, (stay_none (λ _. usize) yes, (stay_none (λ _. usize) yes, tt))))
 
 -- ---- the test of a loop, whose outcome is not known: the turn goes on, or the loop is left, knowing how it came out
 
@@ -107,17 +107,15 @@ module _ {M : Type 1} {𝓤 : Ura M} (𝓛 : Logic 𝓤) (mem : Memory → SProp
 
 -- the numbers that are passed, which fit
 pub record Counts : Type 0 where
-  pub k : ℕ
   pub s : ℕ
   pub t : ℕ
   pub d : ℕ
-  pub k-fits : k < 2 ^ 64
   pub s-fits : s < 2 ^ 64
   pub t-fits : t < 2 ^ 64
   pub d-fits : d < 2 ^ 64
 
 module _ {M : Type 1} {𝓤 : Ura M} (𝓛 : Logic 𝓤) (mem : Memory → SProp 𝓤) (run : Routine → Fun 𝓤)
-    (κ : Lft) (q : Share) (x : Bor (List ℕ)) (n : Counts) where
+    (κ : Lft) (q : Share) (x : Bor (List ℕ)) (k : Counts) where
   -- the machine value of the bytes, and the arguments
   open 𝓛 use {H, A}
 
@@ -125,7 +123,7 @@ module _ {M : Type 1} {𝓤 : Ura M} (𝓛 : Logic 𝓤) (mem : Memory → SProp
   v = lent x
 
   abbrev vals : Vals fn.signature (κ, tt)
-  vals = (v ∷ [], (vint w64 n.s ∷ [], (vint w64 n.t ∷ [], (vint w64 n.d ∷ [], (vint w64 n.k ∷ [], tt)))))
+  vals = (v ∷ [], (vint w64 k.s ∷ [], (vint w64 k.t ∷ [], (vint w64 k.d ∷ [], tt))))
 
   abbrev Own : Fml
   Own = (ShrSlice (named 0) κ u8).own_val x (v ∷ [])
@@ -134,7 +132,7 @@ module _ {M : Type 1} {𝓤 : Ura M} (𝓛 : Logic 𝓤) (mem : Memory → SProp
   Tok = Token 𝓛 mem run κ q
 
   abbrev bound : (walk_of 𝓛 fn.ended stayed (fn.clauses 𝓛 mem run)).Ghost
-  bound = (((κ, tt), (q, tt), tt, (x, (n.s, (n.t, (n.d, (n.k, tt))))), vals), tt)
+  bound = (((κ, tt), (q, tt), tt, (x, (k.s, (k.t, (k.d, tt)))), vals), tt)
 
   abbrev Ends : Val → SProp 𝓤
   Ends = (walk_of 𝓛 fn.ended stayed (fn.clauses 𝓛 mem run)).post bound
@@ -144,46 +142,44 @@ module _ {M : Type 1} {𝓤 : Ura M} (𝓛 : Logic 𝓤) (mem : Memory → SProp
   r₀ = fresh x 0
 
   -- at entry the part of the bytes is had twice: one stays, and the other is the first reader's
-  begins : ent 𝓤 (on_entry 𝓛 fn.signature (κ, tt) (q, tt) (x, (n.s, (n.t, (n.d, (n.k, tt))))) vals)
+  begins : ent 𝓤 (on_entry 𝓛 fn.signature (κ, tt) (q, tt) (x, (k.s, (k.t, (k.d, tt)))) vals)
       (sep 𝓤 (sem 𝓛 Own) (sep 𝓤 (sep 𝓤 (A.lft κ q) (sem 𝓛 ftrue)) (sem 𝓛 (Holding κ r₀))))
   begins =
-      qed 𝓛 (Tok ∷ ‵ (owns (ShrSlice (named 0) κ u8 ∷ usize ∷ usize ∷ usize ∷ usize ∷ []) (x, (n.s, (n.t, (n.d, (n.k, tt))))) vals) ∷ []) ∵
+      qed 𝓛 (Tok ∷ ‵ (owns (ShrSlice (named 0) κ u8 ∷ usize ∷ usize ∷ usize ∷ []) (x, (k.s, (k.t, (k.d, tt)))) vals) ∷ []) ∵
       move ! (1 ∷ []) $ fsplit ! $ move ! (1 ∷ []) $ drop ! $ use1 𝓛 (‵ Own ⊛ ‵ Own) ((shr_slice_copy 𝓛 (named 0) κ u8).twice x (v ∷ [])) $ split ! $
       frame ! $ use1 𝓛 (‵ (Holding κ r₀)) (starts 𝓛 κ x 0 (lit< tt)) $ move ! (1 ∷ []) $ frame ! $ done !
 
   -- ---- the call of `stands` on the number that a reader holds
 
   abbrev test : Reader → Bool
-  test r = is_some (decode n.k n.s n.t n.d (bytes_of r.number))
+  test r = is_some (decode k.s k.t k.d (bytes_of r.number))
 
   abbrev passed : (r : Reader) → Vals stands.signature tt
-  passed r = (vint w32 r.number ∷ [], (vint w64 n.s ∷ [], (vint w64 n.t ∷ [], (vint w64 n.d ∷ [], (vint w64 n.k ∷ [], tt)))))
+  passed r = (vint w32 r.number ∷ [], (vint w64 k.s ∷ [], (vint w64 k.t ∷ [], (vint w64 k.d ∷ [], tt))))
 
   abbrev to-stands : Reader → (Stands 𝓛 mem run).Ghost
-  to-stands r = ((tt, tt, tt, (r.number, (n.s, (n.t, (n.d, (n.k, tt))))), passed r), tt)
+  to-stands r = ((tt, tt, tt, (r.number, (k.s, (k.t, (k.d, tt)))), passed r), tt)
 
   -- what it asks is had for nothing
   asked : (r : Reader) → Good κ r → ent 𝓤 (emp 𝓤) ((Stands 𝓛 mem run).pre (to-stands r))
   asked r g =
       qed 𝓛 [] ∵ nothing ! $
-      owned ! usize (Is usize) (uint_Makes 𝓛 w64) n.k _ (refl, n.k-fits) $ fjoin ! $
-      owned ! usize (Is usize) (uint_Makes 𝓛 w64) n.d _ (refl, n.d-fits) $ fjoin ! $
-      owned ! usize (Is usize) (uint_Makes 𝓛 w64) n.t _ (refl, n.t-fits) $ fjoin ! $
-      owned ! usize (Is usize) (uint_Makes 𝓛 w64) n.s _ (refl, n.s-fits) $ fjoin ! $
+      owned ! usize (Is usize) (uint_Makes 𝓛 w64) k.d _ (refl, k.d-fits) $ fjoin ! $
+      owned ! usize (Is usize) (uint_Makes 𝓛 w64) k.t _ (refl, k.t-fits) $ fjoin ! $
+      owned ! usize (Is usize) (uint_Makes 𝓛 w64) k.s _ (refl, k.s-fits) $ fjoin ! $
       owned ! u32 (Is u32) (uint_Makes 𝓛 w32) r.number _ (refl, small κ r g) $ fjoin ! $ nothing ! $ join ! $ frame ! $ done !
 
   -- ---- the exit, with either answer
 
-  exits-with : (r : Reader) (b : Bool) → b ≡ is_some (collect (decode n.k n.s n.t n.d) (pieces (length x.now / 4) 4 x.now))
+  exits-with : (r : Reader) (b : Bool) → b ≡ is_some (collect (decode k.s k.t k.d) (pieces (length x.now / 4) 4 x.now))
       → ent 𝓤 (⋆ 𝓛 (‵ (Holding κ r) ∷ Tok ∷ ‵ Own ∷ [])) (Ends (vbool b))
   exits-with r b e =
       qed 𝓛 (‵ (Holding κ r) ∷ Tok ∷ ‵ Own ∷ []) ∵ drop ! $
-      suffices ! _ (ends_at 𝓛 fn.ended stayed (fn.clauses 𝓛 mem run) bound (vbool b) b (tt, (tt, (tt, (tt, (tt, tt))))) (tt, (tt, (tt, (tt, (tt, tt)))))) $
+      suffices ! _ (ends_at 𝓛 fn.ended stayed (fn.clauses 𝓛 mem run) bound (vbool b) b (tt, (tt, (tt, (tt, tt)))) (tt, (tt, (tt, (tt, tt))))) $
       says ! e $ frame ! $ nothing ! $
-      owned ! usize (Is usize) (uint_Makes 𝓛 w64) n.k _ (refl, n.k-fits) $ fjoin ! $
-      owned ! usize (Is usize) (uint_Makes 𝓛 w64) n.d _ (refl, n.d-fits) $ fjoin ! $
-      owned ! usize (Is usize) (uint_Makes 𝓛 w64) n.t _ (refl, n.t-fits) $ fjoin ! $
-      owned ! usize (Is usize) (uint_Makes 𝓛 w64) n.s _ (refl, n.s-fits) $ fjoin ! $
+      owned ! usize (Is usize) (uint_Makes 𝓛 w64) k.d _ (refl, k.d-fits) $ fjoin ! $
+      owned ! usize (Is usize) (uint_Makes 𝓛 w64) k.t _ (refl, k.t-fits) $ fjoin ! $
+      owned ! usize (Is usize) (uint_Makes 𝓛 w64) k.s _ (refl, k.s-fits) $ fjoin ! $
       move ! (1 ∷ 0 ∷ []) $ fjoin ! $ frame ! $ owned ! Boolean (Is Boolean) (bool_Makes 𝓛) b _ refl $ done !
 
   -- ---- the loop
@@ -192,7 +188,7 @@ module _ {M : Type 1} {𝓤 : Ura M} (𝓛 : Logic 𝓤) (mem : Memory → SProp
   pub record After (j : ℕ) (r : Reader) : Type 0 where
     pub bytes-are : r.bytes ≡ x
     pub place_is : r.at ≡ 4 * j
-    pub so_far : Decodes n.k n.s n.t n.d x.now j
+    pub so_far : Decodes k.s k.t k.d x.now j
     pub good : Good κ r
 
   abbrev State : Type 0
@@ -210,10 +206,10 @@ module _ {M : Type 1} {𝓤 : Ura M} (𝓛 : Logic 𝓤) (mem : Memory → SProp
 
   -- what `stands` says of the number, of the bytes
   of-bytes : Bytes x.now → (a : State) → 4 ≤ remaining a.1.0
-      → test (after a.1.0 4) ≡ is_some (decode n.k n.s n.t n.d (part a.1.0.at 4 x.now))
+      → test (after a.1.0 4) ≡ is_some (decode k.s k.t k.d (part a.1.0.at 4 x.now))
   of-bytes known a more =
-      ap (λ (y : Bor (List ℕ)). is_some (decode n.k n.s n.t n.d (bytes_of (little (part a.1.0.at 4 y.now))))) a.1.1.bytes-are
-      ∙ ap (λ (bs : List ℕ). is_some (decode n.k n.s n.t n.d bs))
+      ap (λ (y : Bor (List ℕ)). is_some (decode k.s k.t k.d (bytes_of (little (part a.1.0.at 4 y.now))))) a.1.1.bytes-are
+      ∙ ap (λ (bs : List ℕ). is_some (decode k.s k.t k.d bs))
       (of_number a.1.0.at x.now known (omega (arith, more, left_is a, a.1.1.place_is)))
 
   -- one turn more
@@ -229,16 +225,16 @@ module _ {M : Type 1} {𝓤 : Ura M} (𝓛 : Logic 𝓤) (mem : Memory → SProp
 
   -- a record that is none, and a loop that has ended
   fails : Bytes x.now → (a : State) → 4 ≤ remaining a.1.0 → false ≡ test (after a.1.0 4)
-      → false ≡ is_some (collect (decode n.k n.s n.t n.d) (pieces (length x.now / 4) 4 x.now))
+      → false ≡ is_some (collect (decode k.s k.t k.d) (pieces (length x.now / 4) 4 x.now))
   fails known a more e =
-      one-fails n.k n.s n.t n.d (length x.now / 4) x.now a.0 a.1.0.at (omega (arith, more, left_is a)) a.1.1.place_is
+      one-fails k.s k.t k.d (length x.now / 4) x.now a.0 a.1.0.at (omega (arith, more, left_is a)) a.1.1.place_is
       (e ∙ of-bytes known a more)
 
-  stand : (a : State) → remaining a.1.0 < 4 → true ≡ is_some (collect (decode n.k n.s n.t n.d) (pieces (length x.now / 4) 4 x.now))
-  stand a less = none-fails n.k n.s n.t n.d (length x.now / 4) x.now a.0 (omega (arith, less, left_is a)) a.1.1.so_far
+  stand : (a : State) → remaining a.1.0 < 4 → true ≡ is_some (collect (decode k.s k.t k.d) (pieces (length x.now / 4) 4 x.now))
+  stand a less = none-fails k.s k.t k.d (length x.now / 4) x.now a.0 (omega (arith, less, left_is a)) a.1.1.so_far
 
   module _ (𝓣 : Tables 𝓤 H) (fm : FmC 𝓤 H 𝓛.laws 𝓣.C) (callees : Known 𝓛 mem run 𝓣.C) (known : Bytes x.now)
-      (l₀ l₁ l₂ l₃ l₄ l₅ l₆ l₇ l₈ l₉ l₁₀ l₁₁ l₁₂ : ℕ) where
+      (l₀ l₁ l₂ l₃ l₄ l₅ l₆ l₇ l₈ l₉ l₁₀ l₁₁ : ℕ) where
     abbrev slice : Ty
     slice = slice_ty (ty_ref (named 0) imm (ty_int w8))
 
@@ -249,8 +245,8 @@ module _ {M : Type 1} {𝓤 : Ura M} (𝓛 : Logic 𝓤) (mem : Memory → SProp
     reader = T'.mir erased
 
     abbrev En : Env 𝓤 H
-    En = (ty_bool, l₀) ∷ (slice, l₁) ∷ (word, l₂) ∷ (word, l₃) ∷ (word, l₄) ∷ (word, l₅) ∷ (reader, l₆) ∷ (word, l₇) ∷ (reader, l₈) ∷ (ty_bool, l₉)
-        ∷ (reader, l₁₀) ∷ (ty_int w32, l₁₁) ∷ (ty_bool, l₁₂) ∷ []
+    En = (ty_bool, l₀) ∷ (slice, l₁) ∷ (word, l₂) ∷ (word, l₃) ∷ (word, l₄) ∷ (reader, l₅) ∷ (word, l₆) ∷ (reader, l₇) ∷ (ty_bool, l₈) ∷ (reader, l₉)
+        ∷ (ty_int w32, l₁₀) ∷ (ty_bool, l₁₁) ∷ []
 
     -- a local without a value, and one with a value, before the rest
     abbrev empty : Ty → ℕ → List (Item 𝓤) → List (Item 𝓤)
@@ -262,10 +258,9 @@ module _ {M : Type 1} {𝓤 : Ura M} (𝓛 : Logic 𝓤) (mem : Memory → SProp
     -- what there is before each turn
     abbrev At : State → List (Item 𝓤)
     At a = ‵ (Holding κ a.1.0) ∷ Tok ∷ ‵ Own
-        ∷ empty ty_bool l₁₂ (empty (ty_int w32) l₁₁ (empty reader l₁₀ (empty ty_bool l₉ (empty reader l₈ (empty word l₇
-        (full reader l₆ (T'.lowered a.1.0)
-        (full word l₅ (vint w64 n.k) (full word l₄ (vint w64 n.d) (full word l₃ (vint w64 n.t) (full word l₂ (vint w64 n.s)
-        (full slice l₁ v (empty ty_bool l₀ []))))))))))))
+        ∷ empty ty_bool l₁₁ (empty (ty_int w32) l₁₀ (empty reader l₉ (empty ty_bool l₈ (empty reader l₇ (empty word l₆
+        (full reader l₅ (T'.lowered a.1.0)
+        (full word l₄ (vint w64 k.d) (full word l₃ (vint w64 k.t) (full word l₂ (vint w64 k.s) (full slice l₁ v (empty ty_bool l₀ [])))))))))))
 
     -- a turn ends nearer to the last byte, or the loop is left and the rest of the body runs
     abbrev Turned : State → Out → SProp 𝓤
@@ -275,7 +270,7 @@ module _ {M : Type 1} {𝓤 : Ura M} (𝓛 : Logic 𝓤) (mem : Memory → SProp
     turns : (a : State) → Sq 𝓛 (At a) (runs 𝓣.C 𝓣.Λ En body.turn-1 (any_q (Turned a)))
     unfolding after_turn
     turns a =
-        -- [what the reader holds; the token; what the bytes own; _12; …; and so on down to _0; …], here and after each call. What is left
+        -- [what the reader holds; the token; what the bytes own; _11; …; and so on down to _0; …], here and after each call. What is left
         assigns ! (of_opd ! (load ! (from ! (stop !)) (look ! 15 refl))) (from ! (stop !)) (init ! 11 refl (typed 𝓛 κ r a.1.1.good)) $
         calls-left 𝓛 mem run κ q r fm callees.of_left (and_then ! (load ! (from ! (stop !)) (look ! 11 refl)) (no_more !)) (λ fits.
         land ! (from ! (stop !)) (init ! 13 refl (tt, record { fits = fits })) $
@@ -292,18 +287,17 @@ module _ {M : Type 1} {𝓤 : Ura M} (𝓛 : Logic 𝓤) (mem : Memory → SProp
         use0 𝓛 (raw ((Stands 𝓛 mem run).pre (to-stands (after r 4)))) (asked (after r 4) g) $
         answers 𝓛 stands.ended (stands.clauses 𝓛 mem run) (to-stands (after r 4)) vbool bool_Tells (test (after r 4)) (λ b ws. id⊢ 𝓤 _)
         fm callees.of-stands
-        (and_then ! (load ! (from ! (stop !)) (look ! 6 refl)) (and_then ! (load ! (from ! (stop !)) (look ! 24 refl))
-        (and_then ! (load ! (from ! (stop !)) (look ! 22 refl)) (and_then ! (load ! (from ! (stop !)) (look ! 20 refl))
-        (and_then ! (load ! (from ! (stop !)) (look ! 18 refl)) (no_more !)))))) (λ _. drop ! $ drop ! $
+        (and_then ! (load ! (from ! (stop !)) (look ! 6 refl)) (and_then ! (load ! (from ! (stop !)) (look ! 22 refl))
+        (and_then ! (load ! (from ! (stop !)) (look ! 20 refl)) (and_then ! (load ! (from ! (stop !)) (look ! 18 refl)) (no_more !))))) (λ _. drop ! $ drop ! $
         land ! (from ! (stop !)) (store ! 9 refl (tt, tt)) $
         assigns ! (un ! (load ! (from ! (stop !)) (look ! 9 refl)) tt) (from ! (stop !)) (init ! 3 refl (tt, tt)) $
         branches ! (load ! (from ! (stop !)) (look ! 3 refl))
         -- none: the reading stops
-        (λ none-there. assigns ! (of_opd ! (false_lit !)) (from ! (stop !)) (init ! 27 refl (tt, tt)) $
-        returns_within ! Ends refl (look ! 27 refl) $
+        (λ none-there. assigns ! (of_opd ! (false_lit !)) (from ! (stop !)) (init ! 25 refl (tt, tt)) $
+        returns_within ! Ends refl (look ! 25 refl) $
         forget ! 3 refl $ forget ! 5 refl $ forget ! 7 refl $ forget ! 9 refl $ forget ! 11 refl $ forget ! 13 refl $ forget ! 15 refl $ forget ! 17 refl $
-        forget ! 19 refl $ forget ! 21 refl $ forget ! 23 refl $ forget ! 25 refl $ forget ! 27 refl $
-        move ! (27 ∷ 28 ∷ []) $ free1 ! $ move ! (25 ∷ 26 ∷ []) $ free1 ! $ move ! (23 ∷ 24 ∷ []) $ free1 ! $ move ! (21 ∷ 22 ∷ []) $ free1 ! $ move ! (19 ∷ 20 ∷ []) $ free1 ! $
+        forget ! 19 refl $ forget ! 21 refl $ forget ! 23 refl $ forget ! 25 refl $
+        move ! (25 ∷ 26 ∷ []) $ free1 ! $ move ! (23 ∷ 24 ∷ []) $ free1 ! $ move ! (21 ∷ 22 ∷ []) $ free1 ! $ move ! (19 ∷ 20 ∷ []) $ free1 ! $
         move ! (17 ∷ 18 ∷ []) $ free1 ! $ move ! (15 ∷ 16 ∷ []) $ free1 ! $ move ! (13 ∷ 14 ∷ []) $ free1 ! $ move ! (11 ∷ 12 ∷ []) $ free1 ! $
         move ! (9 ∷ 10 ∷ []) $ free1 ! $ move ! (7 ∷ 8 ∷ []) $ free1 ! $ move ! (5 ∷ 6 ∷ []) $ free1 ! $ move ! (3 ∷ 4 ∷ []) $ free1 ! $ free0 ! $
         by ! (exits-with (after r 4) false (fails known a more (sym (was-false (test (after r 4)) none-there)))))
@@ -315,11 +309,11 @@ module _ {M : Type 1} {𝓤 : Ura M} (𝓛 : Logic 𝓤) (mem : Memory → SProp
         (λ over.
         let less : remaining a.1.0 < 4 = omega (arith, nleb→lt) in
         exec ! 𝓣.C 𝓣.Λ En body.t-3 (at_ret En Ends) $
-        assigns ! (of_opd ! (true_lit !)) (from ! (stop !)) (init ! 27 refl (tt, tt)) $
-        returns ! (look ! 27 refl) $
+        assigns ! (of_opd ! (true_lit !)) (from ! (stop !)) (init ! 25 refl (tt, tt)) $
+        returns ! (look ! 25 refl) $
         forget ! 9 refl $ forget ! 11 refl $ forget ! 13 refl $ forget ! 15 refl $ forget ! 17 refl $ forget ! 19 refl $ forget ! 21 refl $
-        forget ! 23 refl $ forget ! 25 refl $ forget ! 27 refl $
-        move ! (27 ∷ 28 ∷ []) $ free1 ! $ move ! (25 ∷ 26 ∷ []) $ free1 ! $ move ! (23 ∷ 24 ∷ []) $ free1 ! $ move ! (21 ∷ 22 ∷ []) $ free1 ! $ move ! (19 ∷ 20 ∷ []) $ free1 ! $
+        forget ! 23 refl $ forget ! 25 refl $
+        move ! (25 ∷ 26 ∷ []) $ free1 ! $ move ! (23 ∷ 24 ∷ []) $ free1 ! $ move ! (21 ∷ 22 ∷ []) $ free1 ! $ move ! (19 ∷ 20 ∷ []) $ free1 ! $
         move ! (17 ∷ 18 ∷ []) $ free1 ! $ move ! (15 ∷ 16 ∷ []) $ free1 ! $ move ! (13 ∷ 14 ∷ []) $ free1 ! $ move ! (11 ∷ 12 ∷ []) $ free1 ! $
         move ! (9 ∷ 10 ∷ []) $ free1 ! $ move ! (7 ∷ 8 ∷ []) $ free1 ! $ move ! (5 ∷ 6 ∷ []) $ free1 ! $ move ! (3 ∷ 4 ∷ []) $ free1 ! $ free0 ! $
         by ! (exits-with r true (stand a less))))
@@ -329,22 +323,22 @@ module _ {M : Type 1} {𝓤 : Ura M} (𝓛 : Logic 𝓤) (mem : Memory → SProp
 
   walk : (𝓣 : Tables 𝓤 H) → FmC 𝓤 H 𝓛.laws 𝓣.C → Known 𝓛 mem run 𝓣.C
       → Holds (has_ty (slice_ty (ty_ref (named 0) imm (ty_int w8))) v) × WT v → Good κ r₀
-      → ent 𝓤 (on_entry 𝓛 fn.signature (κ, tt) (q, tt) (x, (n.s, (n.t, (n.d, (n.k, tt))))) vals)
-      (WpFn 𝓤 H 𝓣.C 𝓣.Λ code.function (v ∷ vint w64 n.s ∷ vint w64 n.t ∷ vint w64 n.d ∷ vint w64 n.k ∷ []) Ends)
+      → ent 𝓤 (on_entry 𝓛 fn.signature (κ, tt) (q, tt) (x, (k.s, (k.t, (k.d, tt)))) vals)
+      (WpFn 𝓤 H 𝓣.C 𝓣.Λ code.function (v ∷ vint w64 k.s ∷ vint w64 k.t ∷ vint w64 k.d ∷ []) Ends)
   walk 𝓣 fm callees wt g₀ =
-      qed 𝓛 (raw (on_entry 𝓛 fn.signature (κ, tt) (q, tt) (x, (n.s, (n.t, (n.d, (n.k, tt))))) vals) ∷ []) ∵
-      enter ! 𝓣.C 𝓣.Λ code.function (v ∷ vint w64 n.s ∷ vint w64 n.t ∷ vint w64 n.d ∷ vint w64 n.k ∷ []) _ $
+      qed 𝓛 (raw (on_entry 𝓛 fn.signature (κ, tt) (q, tt) (x, (k.s, (k.t, (k.d, tt)))) vals) ∷ []) ∵
+      enter ! 𝓣.C 𝓣.Λ code.function (v ∷ vint w64 k.s ∷ vint w64 k.t ∷ vint w64 k.d ∷ []) _ $
       alloc1 ! (λ l₀. alloc1 ! (λ l₁. alloc1 ! (λ l₂. alloc1 ! (λ l₃. alloc1 ! (λ l₄. alloc1 ! (λ l₅. alloc1 ! (λ l₆. alloc1 ! (λ l₇. alloc1 ! (λ l₈.
-      alloc1 ! (λ l₉. alloc1 ! (λ l₁₀. alloc1 ! (λ l₁₁. alloc1 ! (λ l₁₂. alloc0 ! $ params1 ! $ pass1 ! (init ! 22 refl wt) $
-      pass1 ! (init ! 20 refl (tt, record { fits = n.s-fits })) $ pass1 ! (init ! 18 refl (tt, record { fits = n.t-fits })) $ pass1 ! (init ! 16 refl (tt, record { fits = n.d-fits })) $
-      pass1 ! (init ! 14 refl (tt, record { fits = n.k-fits })) $ pass0 ! $
-      assigns ! (agg ! (and_then ! (load ! (from ! (stop !)) (look ! 22 refl)) (and_then ! (lit ! tt) (and_then ! (lit ! tt) (no_more !)))))
+      alloc1 ! (λ l₉. alloc1 ! (λ l₁₀. alloc1 ! (λ l₁₁. alloc0 ! $ params1 ! $ pass1 ! (init ! 20 refl wt) $
+      pass1 ! (init ! 18 refl (tt, record { fits = k.s-fits })) $ pass1 ! (init ! 16 refl (tt, record { fits = k.t-fits })) $
+      pass1 ! (init ! 14 refl (tt, record { fits = k.d-fits })) $ pass0 ! $
+      assigns ! (agg ! (and_then ! (load ! (from ! (stop !)) (look ! 20 refl)) (and_then ! (lit ! tt) (and_then ! (lit ! tt) (no_more !)))))
       (from ! (stop !)) (init ! 12 refl (typed 𝓛 κ r₀ g₀)) $
-      move ! (26 ∷ []) $ use1 𝓛 (‵ Own ⊛ (Tok ⊛ ‵ (Holding κ r₀))) begins $ split ! $ move ! (1 ∷ []) $ split ! $ move ! (2 ∷ 0 ∷ []) $
+      move ! (24 ∷ []) $ use1 𝓛 (‵ Own ⊛ (Tok ⊛ ‵ (Holding κ r₀))) begins $ split ! $ move ! (1 ∷ []) $ split ! $ move ! (2 ∷ 0 ∷ []) $
       use2 𝓛 (later (given (Bytes x.now) (‵ Own ⊛ Tok))) (bytes-known 𝓛 κ q x) $ await ! tt $ learn ! (λ known. split ! $ move ! (2 ∷ 1 ∷ 0 ∷ []) $
       first ! $ blocks ! $
-      loops ! 𝓣 Nearer Nearer-wf (At 𝓣 fm callees known l₀ l₁ l₂ l₃ l₄ l₅ l₆ l₇ l₈ l₉ l₁₀ l₁₁ l₁₂) (turns 𝓣 fm callees known l₀ l₁ l₂ l₃ l₄ l₅ l₆ l₇ l₈ l₉ l₁₀ l₁₁ l₁₂)
-      (0, (r₀, record { bytes-are = refl; place_is = refl; so_far = decodes_none; good = g₀ }))))))))))))))))
+      loops ! 𝓣 Nearer Nearer-wf (At 𝓣 fm callees known l₀ l₁ l₂ l₃ l₄ l₅ l₆ l₇ l₈ l₉ l₁₀ l₁₁) (turns 𝓣 fm callees known l₀ l₁ l₂ l₃ l₄ l₅ l₆ l₇ l₈ l₉ l₁₀ l₁₁)
+      (0, (r₀, record { bytes-are = refl; place_is = refl; so_far = decodes_none; good = g₀ })))))))))))))))
 
 module _ {M : Type 1} {𝓤 : Ura M} (𝓛 : Logic 𝓤) (mem : Memory → SProp 𝓤) (run : Routine → Fun 𝓤) where
   open 𝓛 use {H}
@@ -352,18 +346,16 @@ module _ {M : Type 1} {𝓤 : Ura M} (𝓛 : Logic 𝓤) (mem : Memory → SProp
   walks : (𝓣 : Tables 𝓤 H) → Known 𝓛 mem run 𝓣.C → Walks 𝓛 fn.ended stayed (WpFn 𝓤 H 𝓣.C 𝓣.Λ code.function) (fn.clauses 𝓛 mem run)
   walks 𝓣 callees =
       walked 𝓛 fn.ended stayed (fn.clauses 𝓛 mem run) (WpFn 𝓤 H 𝓣.C 𝓣.Λ code.function)
-      (λ κs. (shr_slice_vals, (uint_vals w64, (uint_vals w64, (uint_vals w64, (uint_vals w64, tt))))))
-      (λ κs. (shr_slice_Tells (named 0) κs.0 u8, (uint_Tells w64, (uint_Tells w64, (uint_Tells w64, (uint_Tells w64, tt))))))
+      (λ κs. (shr_slice_vals, (uint_vals w64, (uint_vals w64, (uint_vals w64, tt)))))
+      (λ κs. (shr_slice_Tells (named 0) κs.0 u8, (uint_Tells w64, (uint_Tells w64, (uint_Tells w64, tt)))))
       (λ κs qs bounds a g are. via 𝓤 _ (fst∗ 𝓤 _ (emp 𝓤)) (walk 𝓛 mem run κs.0 qs.0 a.0
       (record {
         s = a.1.0;
         t = a.1.1.0;
         d = a.1.1.1.0;
-        k = a.1.1.1.1.0;
         s-fits = are.1.0.1;
         t-fits = are.1.1.0.1;
         d-fits = are.1.1.1.0.1;
-        k-fits = are.1.1.1.1.0.1;
       }) 𝓣 (fm_of 𝓤 H 𝓛.laws 𝓣) callees ((shr_slice_Lawful 𝓛 (named 0) κs.0 u8).typed a.0 _ are.0).0
       (fresh-good κs.0 a.0 0 are.0 (lit< tt))))
 
@@ -371,7 +363,7 @@ meets : {M : Type 1} {𝓤 : Ura M} (𝓛 : Logic 𝓤) (mem : Memory → SProp 
     → Known 𝓛 mem run 𝓣.C → Meets 𝓛 fn.signature (WpFn 𝓤 𝓛.H 𝓣.C 𝓣.Λ code.function) (fn.spec 𝓛 mem run)
 meets {𝓤 = 𝓤} 𝓛 mem run 𝓣 callees =
     let number = Goes-none 𝓛 1 (λ _. usize) yes (λ κs x f. refl) in
-    walk_Meets 𝓛 fn.ended stayed (Goes-none_slice 𝓛 1 (0 ∷ []) tt (plain (λ _. u8)) yes, (number, (number, (number, (number, tt)))))
+    walk_Meets 𝓛 fn.ended stayed (Goes-none_slice 𝓛 1 (0 ∷ []) tt (plain (λ _. u8)) yes, (number, (number, (number, tt))))
     (fn.clauses 𝓛 mem run) (WpFn 𝓤 𝓛.H 𝓣.C 𝓣.Λ code.function) (WpFn-mono 𝓤 𝓛.H 𝓛.laws 𝓣 code.function) (walks 𝓛 mem run 𝓣 callees)
 
 pub all-stand-spec : {M : Type 1} → stated.statement M

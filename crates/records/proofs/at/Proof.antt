@@ -7,7 +7,7 @@ use Rattle.records.proofs.at.Tie as tie
 returns : tie.Need-returns
 returns c =
     let a = c.before.before.before.before.before.before.args in
-    of-bytes a.k a.s a.t a.d (4 * a.j) a.bytes.now _ (search rules) c.decode.ensures
+    of-bytes a.s a.t a.d (4 * a.j) a.bytes.now _ (search rules) c.decode.ensures
 
 pub at-spec : {M : Type 1} → statement M
 at-spec =

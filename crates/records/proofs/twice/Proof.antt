@@ -43,13 +43,9 @@ returns-7 : tie.Need-returns-7
 unfolding constraint_of variables repeats any same_variable
 returns-7 c = sym (ap repeating c.enum-told2.given.1)
 
-returns-8 : tie.Need-returns-8
-unfolding constraint_of variables repeats any same_variable
-returns-8 c = sym (ap repeating c.enum-told3.given.1)
-
 pub twice_spec : {M : Type 1} → statement M
 twice_spec =
     tie.close
     (tie.spec
-    (λ c. search rules) (λ c. search rules) (λ c. search rules) (λ c. search rules) (λ c. search rules) (λ c. search rules) (λ c. search rules) (λ c. search rules) returns
-    returns-2 returns-3 returns-4 returns-5 returns-6 returns-7 returns-8)
+    (λ c. search rules) (λ c. search rules) (λ c. search rules) (λ c. search rules) (λ c. search rules) (λ c. search rules) (λ c. search rules) returns
+    returns-2 returns-3 returns-4 returns-5 returns-6 returns-7)

@@ -1,4 +1,4 @@
-use Rattle.steps.proofs.KindLaws.{eq_asks, eq-narrows, neq_asks, neq-narrows, rev_asks, rev-narrows, cat_asks, cat-narrows, sub_asks, sub-narrows, len_asks, len-narrows, regular_asks, regular-of, duration_asks, duration-narrows}
+use Rattle.steps.proofs.KindLaws.{eq_asks, eq-narrows, neq_asks, neq-narrows, rev_asks, rev-narrows, cat_asks, cat-narrows, sub_asks, sub-narrows, len_asks, len-narrows, regular_asks, regular-of}
 use borrow.Author.Rules.{rules}
 use Rattle.steps.proofs.narrow.Statement.{statement}
 use Rattle.steps.proofs.narrow.Tie as tie
@@ -38,11 +38,6 @@ regular-at-requires c κs =
     let known = c.before.before.before.before.before in
     regular_asks _ _ _ _ _ (λ i. (known.before.shared-slice-known.given i).fits) known.before.before.requires _ _ c.before.before.r7.given.1
 
-narrow-requires-7 : tie.Need-narrow-requires-7
-narrow-requires-7 c κs =
-    let known = c.before.before.before.before.before in
-    duration_asks _ _ _ _ _ (λ i. (known.before.shared-slice-known.given i).fits) known.before.before.requires _ _ c.before.before.r8.given.1
-
 returns : tie.Need-returns
 returns c =
     let known = c.before.before.before.before.before.before.before.before in
@@ -78,11 +73,6 @@ returns-7 c =
     let known = c.before.before.before.before.before.before.before.before in
     regular-of _ _ _ _ _ (λ i. (known.before.shared-slice-known.given i).fits) known.before.before.requires _ _ c.before.before.before.before.before.r7.given.1 c.before.before.regular-at.ensures
 
-returns-8 : tie.Need-returns-8
-returns-8 c =
-    let known = c.before.before.before.before.before.before.before.before in
-    duration-narrows _ _ _ _ _ (λ i. (known.before.shared-slice-known.given i).fits) known.before.before.requires _ _ c.before.before.before.before.before.r8.given.1 c.before.before.narrow7.ensures
-
 pub narrow-spec : {M : Type 1} → statement M
 narrow-spec =
     tie.close
@@ -91,6 +81,6 @@ narrow-spec =
     narrow-requires-2 (λ c. search rules) (λ c. search rules) (λ c. search rules) narrow-requires-3 (λ c. search rules) (λ c. search rules)
     (λ c. search rules) (λ c. search rules) narrow-requires-4 (λ c. search rules) (λ c. search rules) (λ c. search rules) (λ c. search rules)
     (λ c. search rules) (λ c. search rules) narrow-requires-5 (λ c. search rules) (λ c. search rules) (λ c. search rules) (λ c. search rules)
-    (λ c. search rules) narrow-requires-6 (λ c. search rules) (λ c. search rules) (λ c. search rules) regular-at-requires (λ c. search rules) (λ c. search rules) (λ c. search rules) narrow-requires-7 (λ c. search rules) returns
+    (λ c. search rules) narrow-requires-6 (λ c. search rules) (λ c. search rules) (λ c. search rules) regular-at-requires (λ c. search rules) returns
     (λ c. search rules) returns-2 (λ c. search rules) returns-3 (λ c. search rules) returns-4 (λ c. search rules) returns-5 (λ c. search rules) returns-6
-    (λ c. search rules) returns-7 (λ c. search rules) returns-8)
+    (λ c. search rules) returns-7)

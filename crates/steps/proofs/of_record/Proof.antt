@@ -1,4 +1,4 @@
-use Rattle.steps.proofs.NamingLaws.{eq-names, neq-names, rev-names, cat-names, sub-names, len-names, regular-names, duration-names}
+use Rattle.steps.proofs.NamingLaws.{eq-names, neq-names, rev-names, cat-names, sub-names, len-names, regular-names}
 use borrow.Author.Rules.{rules}
 use Rattle.steps.proofs.of_record.Statement.{statement}
 use Rattle.steps.proofs.of_record.Tie as tie
@@ -24,9 +24,6 @@ returns-6 c = len-names _ c.before.before.r6.given.1 c.numbered2.ensures
 returns-7 : tie.Need-returns-7
 returns-7 c = regular-names _ c.before.before.r7.given.1 c.unnumbered5.ensures
 
-returns-8 : tie.Need-returns-8
-returns-8 c = duration-names _ c.before.before.r8.given.1 c.unnumbered6.ensures
-
 pub of-record-spec : {M : Type 1} → statement M
 of-record-spec =
     tie.close
@@ -35,5 +32,5 @@ of-record-spec =
     (λ c κs. search rules) (λ c. search rules) (λ c. search rules) (λ c. search rules) (λ c κs. search rules) (λ c. search rules) (λ c. search rules)
     (λ c. search rules) (λ c. search rules) (λ c κs. search rules) (λ c. search rules) (λ c. search rules) (λ c. search rules) (λ c. search rules)
     (λ c. search rules) (λ c. search rules) (λ c κs. search rules) (λ c. search rules) (λ c. search rules) (λ c. search rules) (λ c. search rules)
-    (λ c. search rules) (λ c κs. search rules) (λ c. search rules) (λ c. search rules) (λ c κs. search rules) (λ c. search rules) (λ c. search rules) (λ c κs. search rules) returns returns-2 returns-3 returns-4
-    returns-5 returns-6 returns-7 returns-8)
+    (λ c. search rules) (λ c κs. search rules) (λ c. search rules) (λ c. search rules) (λ c κs. search rules) returns returns-2 returns-3 returns-4
+    returns-5 returns-6 returns-7)

@@ -1,4 +1,4 @@
-use borrow.Author.Tests.{not_true, not_false}
+use borrow.Author.Tests.{not-true, not-false}
 use Rattle.laws.proofs.TableLaws.{words_of}
 use Rattle.waiting.proofs.SettleLaws.{ready_asks, settle_unready, lengths_asks, waiting_asks, settle-empty, run_asks, settle-strings, settle-dead, settle-done}
 use borrow.Author.Rules.{rules}
@@ -16,7 +16,7 @@ returns c =
     let y = c.before.before.before in
     let k = y.before.before in
     let s = k.before.before.before.before in
-    settle_unready _ _ _ _ _ (λ i. (k.before.before.before.shared-slice-known.given i).fits) (words_of s.args.table.now (λ i. (k.slice-known.given i).fits)) (s.requires.0, s.requires.1, s.requires.2, s.requires.3, s.requires.4) y.ready.ensures (not_true _ c.if1.true)
+    settle_unready _ _ _ _ _ (λ i. (k.before.before.before.shared-slice-known.given i).fits) (words_of s.args.table.now (λ i. (k.slice-known.given i).fits)) (s.requires.0, s.requires.1, s.requires.2, s.requires.3, s.requires.4) y.ready.ensures (not-true _ c.if1.true)
 
 first-waiting-requires : tie.Need-first-waiting-requires
 first-waiting-requires c κs =
@@ -40,7 +40,7 @@ returns-2 c =
     let y = e.before.before.before in
     let k = y.before.before in
     let s = k.before.before.before.before in
-    settle-empty _ _ _ _ _ (λ i. (k.before.before.before.shared-slice-known.given i).fits) (words_of s.args.table.now (λ i. (k.slice-known.given i).fits)) (s.requires.0, s.requires.1, s.requires.2, s.requires.3, s.requires.4) y.ready.ensures (not_false _ e.if1.false) w.first-waiting.ensures l.has-lengths.ensures (not_true _ c.if2.true)
+    settle-empty _ _ _ _ _ (λ i. (k.before.before.before.shared-slice-known.given i).fits) (words_of s.args.table.now (λ i. (k.slice-known.given i).fits)) (s.requires.0, s.requires.1, s.requires.2, s.requires.3, s.requires.4) y.ready.ensures (not-false _ e.if1.false) w.first-waiting.ensures l.has-lengths.ensures (not-true _ c.if2.true)
 
 run-requires : tie.Need-run-requires
 run-requires c κs =
@@ -51,7 +51,7 @@ run-requires c κs =
     let y = e.before.before.before in
     let k = y.before.before in
     let s = k.before.before.before.before in
-    run_asks _ _ _ _ _ (λ i. (k.before.before.before.shared-slice-known.given i).fits) (words_of s.args.table.now (λ i. (k.slice-known.given i).fits)) (s.requires.0, s.requires.1, s.requires.2, s.requires.3, s.requires.4) y.ready.ensures (not_false _ e.if1.false) w.first-waiting.ensures l.has-lengths.ensures (not_false _ d.if2.false) s.requires.5
+    run_asks _ _ _ _ _ (λ i. (k.before.before.before.shared-slice-known.given i).fits) (words_of s.args.table.now (λ i. (k.slice-known.given i).fits)) (s.requires.0, s.requires.1, s.requires.2, s.requires.3, s.requires.4) y.ready.ensures (not-false _ e.if1.false) w.first-waiting.ensures l.has-lengths.ensures (not-false _ d.if2.false) s.requires.5
 
 returns-3 : tie.Need-returns-3
 returns-3 c =
@@ -61,7 +61,7 @@ returns-3 c =
     let y = e.before.before.before in
     let k = y.before.before in
     let s = k.before.before.before.before in
-    settle-dead _ _ _ _ _ (λ i. (k.before.before.before.shared-slice-known.given i).fits) (words_of s.args.table.now (λ i. (k.slice-known.given i).fits)) (s.requires.0, s.requires.1, s.requires.2, s.requires.3, s.requires.4) y.ready.ensures (not_false _ e.if1.false) w.first-waiting.ensures r.run.ensures (not_true _ c.if3.true)
+    settle-dead _ _ _ _ _ (λ i. (k.before.before.before.shared-slice-known.given i).fits) (words_of s.args.table.now (λ i. (k.slice-known.given i).fits)) (s.requires.0, s.requires.1, s.requires.2, s.requires.3, s.requires.4) y.ready.ensures (not-false _ e.if1.false) w.first-waiting.ensures r.run.ensures (not-true _ c.if3.true)
 
 every-value-requires : tie.Need-every-value-requires
 every-value-requires c κs =
@@ -71,7 +71,7 @@ every-value-requires c κs =
     let y = e.before.before.before in
     let k = y.before.before in
     let s = k.before.before.before.before in
-    settle-strings _ _ _ _ _ (λ i. (k.before.before.before.shared-slice-known.given i).fits) (words_of s.args.table.now (λ i. (k.slice-known.given i).fits)) (s.requires.0, s.requires.1, s.requires.2, s.requires.3, s.requires.4) y.ready.ensures (not_false _ e.if1.false) w.first-waiting.ensures r.run.ensures
+    settle-strings _ _ _ _ _ (λ i. (k.before.before.before.shared-slice-known.given i).fits) (words_of s.args.table.now (λ i. (k.slice-known.given i).fits)) (s.requires.0, s.requires.1, s.requires.2, s.requires.3, s.requires.4) y.ready.ensures (not-false _ e.if1.false) w.first-waiting.ensures r.run.ensures
 
 returns-4 : tie.Need-returns-4
 returns-4 c =
@@ -82,7 +82,7 @@ returns-4 c =
     let y = e.before.before.before in
     let k = y.before.before in
     let s = k.before.before.before.before in
-    settle-done _ _ _ _ _ (λ i. (k.before.before.before.shared-slice-known.given i).ranges) (words_of s.args.table.now (λ i. (k.slice-known.given i).ranges)) (s.requires.0, s.requires.1, s.requires.2, s.requires.3, s.requires.4) y.ready.ensures (not_false _ e.if1.false) w.first-waiting.ensures r.run.ensures (not_false _ i.if3.false) c.every_value.ensures
+    settle-done _ _ _ _ _ (λ i. (k.before.before.before.shared-slice-known.given i).ranges) (words_of s.args.table.now (λ i. (k.slice-known.given i).ranges)) (s.requires.0, s.requires.1, s.requires.2, s.requires.3, s.requires.4) y.ready.ensures (not-false _ e.if1.false) w.first-waiting.ensures r.run.ensures (not-false _ i.if3.false) c.every_value.ensures
 
 pub settle-spec : {M : Type 1} → statement M
 settle-spec =

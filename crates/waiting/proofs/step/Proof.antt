@@ -1,4 +1,4 @@
-use borrow.Author.Tests.{not_true, not_false}
+use borrow.Author.Tests.{not-true, not-false}
 use Rattle.laws.proofs.TableLaws.{words_of}
 use Rattle.index.proofs.NotingLaws.{noting_all}
 use Rattle.waiting.proofs.StepLaws.{Taken, taken, narrow_asks, waking_asks, waking-bit, turned-quiet, turned-dead, turned-woken}
@@ -33,7 +33,7 @@ returns-2 : tie.Need-returns-2
 returns-2 c =
     let n = c.before.before.before.before in
     let k = known n.before.before.before in
-    turned-dead k n.narrow.ensures (not_true _ c.if1.true)
+    turned-dead k n.narrow.ensures (not-true _ c.if1.true)
 
 waking-requires : tie.Need-waking-requires
 waking-requires c κs =
@@ -45,19 +45,19 @@ returns-3 : tie.Need-returns-3
 returns-3 c =
     let n = c.before.before.before.before.before.before in
     let k = known n.before.before.before in
-    turned-quiet k n.narrow.ensures (not_false _ c.before.before.if1.false) c.before.waking.ensures c.if2.true
+    turned-quiet k n.narrow.ensures (not-false _ c.before.before.if1.false) c.before.waking.ensures c.if2.true
 
 sub-t21 : tie.Need-overflow-sub-t21
 sub-t21 c =
     let n = c.before.before.before.before.before.before.before in
     let k = known n.before.before.before in
-    waking-bit k n.narrow.ensures (not_false _ c.before.before.before.if1.false) c.before.before.waking.ensures c.before.if2.false c.singleton.ensures
+    waking-bit k n.narrow.ensures (not-false _ c.before.before.before.if1.false) c.before.before.waking.ensures c.before.if2.false c.singleton.ensures
 
 returns-4 : tie.Need-returns-4
 returns-4 c =
     let n = c.before.before.before.before.before.before.before in
     let k = known n.before.before.before in
-    turned-woken k n.narrow.ensures (not_false _ c.before.before.before.if1.false) c.before.before.waking.ensures c.before.if2.false c.singleton.ensures
+    turned-woken k n.narrow.ensures (not-false _ c.before.before.before.if1.false) c.before.before.waking.ensures c.before.if2.false c.singleton.ensures
 
 pub step_spec : {M : Type 1} → statement M
 step_spec =

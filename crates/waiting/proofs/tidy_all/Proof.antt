@@ -1,6 +1,6 @@
 use Prim.Native.Nat.{◌-◌, ◌≤◌}
 use native.Mathlib.Omega.{arith}
-use borrow.Author.Tests.{not_true, not_false}
+use borrow.Author.Tests.{not-true, not-false}
 use Rattle.waiting.proofs.BeginLaws.{Trimmings, trims-start, trims-length, trims-next, trims-stop, trims-end}
 use borrow.Author.Rules.{rules}
 use Rattle.waiting.proofs.tidy_all.Statement.{statement}
@@ -32,13 +32,13 @@ returns : tie.Need-returns invariant-loop decreases-loop
 returns c =
     let t = c.before.before.before in
     let l = t.before.before in
-    trims-stop l.before.before.before.requires l.loop-test.true l.before.loop.invariant.1 t.tidy.ensures (not_true _ c.if1.true)
+    trims-stop l.before.before.before.requires l.loop-test.true l.before.loop.invariant.1 t.tidy.ensures (not-true _ c.if1.true)
 
 loop-again : tie.Need-loop-preserved invariant-loop decreases-loop
 loop-again c =
     let t = c.before.before.before in
     let l = t.before.before in
-    (search rules, trims-next l.before.before.before.requires l.loop-test.true l.before.loop.invariant.1 t.tidy.ensures (not_false _ c.if1.false))
+    (search rules, trims-next l.before.before.before.requires l.loop-test.true l.before.loop.invariant.1 t.tidy.ensures (not-false _ c.if1.false))
 
 same-length-2 : tie.Need-same-length-2 invariant-loop decreases-loop
 same-length-2 c = c.before.loop.invariant.1.same_length

@@ -1,6 +1,6 @@
 use Rattle.std.proofs.Common.{ℕ, ◌*◌, sym, ap, ◌∙◌, ap₂, arith, rules}
 use mathlib.Core.Bool.{false≢true}
-use borrow.Author.Tests.{not_true, not_false}
+use borrow.Author.Tests.{not-true, not-false}
 use Rattle.model.specs.Words.{none_from}
 use Rattle.automata.proofs.MachineLaws.{cells_few}
 use Rattle.automata.proofs.AutomataWalkLaws.{not-whole, whole-by-moves}
@@ -34,13 +34,13 @@ returns-4 c =
 returns-5 : tie.Need-returns-5
 returns-5 c =
     let e = ap₂ none_from c.before.before.before.before.before.before.states.ensures c.before.before.accepting.ensures in
-    sym (not-whole _ _ (λ w. false≢true (sym (not_true _ c.if5.true) ∙ c.before.none_from.ensures ∙ e ∙ w.accepting-known)))
+    sym (not-whole _ _ (λ w. false≢true (sym (not-true _ c.if5.true) ∙ c.before.none_from.ensures ∙ e ∙ w.accepting-known)))
 
 returns-6 : tie.Need-returns-6
 returns-6 c =
     let e = c.before.before.before.before.before.before.before.states.ensures in
     let f = c.before.before.before.accepting.ensures in
-    let z = sym c.before.before.none_from.ensures ∙ not_false _ c.before.if5.false in
+    let z = sym c.before.before.none_from.ensures ∙ not-false _ c.before.if5.false in
     c.moves-known.ensures ∙ whole-by-moves _ _ _ _ e f (search rules) (search rules) (search rules) z
 
 pub whole-spec : {M : Type 1} → statement M

@@ -1,5 +1,0 @@
--- The laws of Duration.
-pub mod SpellingLaws
-pub mod StretchLaws
-pub mod DurationLaws
-pub mod DurationSteps

@@ -1,3 +1,0 @@
--- The definitions that the contracts of `duration` cite.
-pub mod Spelling
-pub mod Stretches
