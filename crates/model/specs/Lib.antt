@@ -20,9 +20,7 @@ pub mod Sink
 pub mod Listing
 pub mod Claim
 pub mod Cases
-pub mod Examples
 pub mod FileExamples
-pub mod QueueExamples
 pub mod GapExamples
 pub mod Traps
 pub mod Pattern
@@ -30,4 +28,3 @@ pub mod PatternText
 pub mod PatternStates
 pub mod Numbering
 pub mod Compile
-pub mod PatternExamples
