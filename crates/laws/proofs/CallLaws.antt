@@ -17,7 +17,7 @@ use Rattle.model.specs.Operations.{require_length, on_table, step_at, step_count
 use Rattle.model.specs.StepIndex.{index_of, require_index_length}
 use Rattle.model.specs.Queue.{queueing, Queued, settle_by_index}
 use Rattle.model.specs.Claim.{Call, step_call, settle_call, settle_by_index_call, call, calls, NoStepStrikes}
-use Rattle.laws.specs.Inclusion.{In, Below}
+use Rattle.laws.specs.Inclusion.{Below}
 use Rattle.laws.specs.Lent.{lendable, unlendable, Stable}
 use Rattle.laws.proofs.ListLaws.{of-all, in_all, and_true, true_and}
 use Rattle.laws.proofs.WordLaws.{none_from-within}

@@ -67,9 +67,9 @@ four_bytes : (w : ℕ) → w < 2 ^ 32 → little (bytes_of 4 w) ≡ w
 unfolding little bytes_of
 four_bytes w h = omega arith
 
-none_from : (q w : ℕ) → ((b : ℕ) → bit w b ≡ true → b < q) → none_from q w ≡ true
+none_from_lem : (q w : ℕ) → ((b : ℕ) → bit w b ≡ true → b < q) → none_from q w ≡ true
 unfolding none_from
-none_from q w h = in_all (λ b. ltb b q) (bits w) (λ b m. lt-ltb b q (h b (of-bits w m).0))
+none_from_lem q w h = in_all (λ b. ltb b q) (bits w) (λ b m. lt-ltb b q (h b (of-bits w m).0))
 
 given_is : {B : Type 0} {t : Bool} {a b : B} → t ≡ true → a ≡ b → given t a ≡ some b
 unfolding given
@@ -120,6 +120,6 @@ module _ (k : ℕ) (A : Automaton) (some-state : 1 ≤ length A.moves) (few : le
       (le-leb 1 q some-state)
       (le-leb q 32 few)
       (le-leb (5 + q * k) (length (encoded A)) (omega (arith, encoded-length)))
-      (ap (none_from q) acc ∙ none_from q A.accepting states-only)
+      (ap (none_from q) acc ∙ none_from_lem q A.accepting states-only)
       (ap (all (known q)) whole_part ∙ moves-known))
       (ap₂ (λ (w : ℕ) (m : List (List (Option ℕ))). record { accepting = w; moves = m }) acc moves_read)

@@ -9,7 +9,7 @@ use Prim.Native.Nat.{ℕ, ◌≤◌, ◌<◌}
 use native.Mathlib.Omega.{arith}
 use lib.Bits.{bit_or}
 use Rattle.model.specs.Words.{bit}
-use Rattle.laws.proofs.ListLaws.{and_true, true_and, or-true as either_true}
+use Rattle.laws.proofs.ListLaws.{and_true, true_and, or_true as either_true}
 use Rattle.laws.proofs.WordLaws.{or-bit-left, or-bit-right, pow_self, pow-only}
 use Rattle.model.specs.Pattern.{Pattern, empty, letter, either, both, many, Repeated, stop, more, Language, JustPassed}
 use Rattle.model.specs.PatternStates.{when, nullable, first, last, follow}

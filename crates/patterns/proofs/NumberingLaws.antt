@@ -26,6 +26,7 @@ module _ {A : Type 0} (same : A → A → Bool) (sound : (x y : A) → same x y 
   -- the number of a state of the list leads back to it
   pub number-in : (Q : List A) (x d : A) → In x Q → (number_in same Q x < length Q) × (get_or Q (number_in same Q x) d ≡ x)
   unfolding number_in
+  number-in [] x d m = elim m [ ]
   number-in (y ∷ Q) x d m = go (same x y) refl m (λ k. number-in Q x d k)
     where
       go : (t : Bool) → same x y ≡ t → In x (y ∷ Q) → (In x Q → (number_in same Q x < length Q) × (get_or Q (number_in same Q x) d ≡ x))
@@ -61,6 +62,7 @@ module _ {A : Type 0} (same : A → A → Bool) (sound : (x y : A) → same x y 
 
   reach_all_in : (Q xs : List A) (y : A) → In y xs → In y (reach_all same Q xs)
   unfolding reach_all
+  reach_all_in Q [] y x' = elim x' [ ]
   reach_all_in Q (x ∷ xs) y (Memᴰ.head q) =
       extends_in (reach same Q x) _ y (reach_all_extends (reach same Q x) xs) (subst (λ (z : A). In z (reach same Q x)) (sym q) (reach_in Q x))
   reach_all_in Q (x ∷ xs) y (Memᴰ.tail m) = reach_all_in (reach same Q x) xs y m

@@ -4,6 +4,7 @@ pub mod TrimLaws
 pub mod MeetLaws
 pub mod ChoiceLaws
 pub mod Windows
+pub mod Positions
 pub mod Alone
 pub mod OneString
 pub mod TwoStrings

@@ -85,6 +85,7 @@ module _ (P : Problem) (c d : Constraint) (ds : List Automaton) (xs ms : List �
 -- ---- short lists of positions
 
 pub one_below : (n : ℕ) {x : ℕ} → x < n → (y : ℕ) → In y (x ∷ []) → y < n
+one_below n h y (Memᴰ.tail x5) = elim x5 [ ]
 one_below n h y (Memᴰ.head e) = subst (λ (z : ℕ). z < n) (sym e) h
 
 pub more-below : (n : ℕ) {x : ℕ} {xs : List ℕ} → x < n → ((y : ℕ) → In y xs → y < n) → (y : ℕ) → In y (x ∷ xs) → y < n

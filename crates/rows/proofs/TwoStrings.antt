@@ -2,10 +2,10 @@
 use mathlib.Core.Path.{◌≡◌, refl, sym, ap, ◌∙◌}
 use mathlib.Core.Bool.{Bool, true, cond}
 use mathlib.Core.List.{List, [], ◌∷◌, ◌++◌, append-nil}
-use Prim.Native.Nat.{ℕ, zero, suc}
+use Prim.Native.Nat.{ℕ}
 use native.Mathlib.Omega.{arith}
 use lib.Dec.{eqb}
-use lib.ListN.{length}
+use lib.ListN.{length, get_or}
 use Rattle.model.specs.Lists.{from, upto}
 use Rattle.model.specs.Words.{Words}
 use Rattle.model.specs.Domains.{str}
@@ -14,6 +14,7 @@ use Rattle.model.specs.Solutions.{text_bit}
 use Rattle.model.specs.Support.{narrowed}
 use Rattle.model.specs.Rounds.{variables_of}
 use Rattle.rows.specs.Rows.{alone}
+use Rattle.rows.proofs.Positions.{below_two}
 use Rattle.rows.proofs.Alone.{rows-narrowed, no_words}
 use Rattle.laws.specs.Supported.{InRow, Supports}
 
@@ -37,14 +38,14 @@ unfolding variables_of alone upto from
 two-narrowed c test vs same x y lx ly bx bY rx ry sx sy =
     ap (λ (l : List ℕ). rx ++ l) (sym (append-nil ry))
     ∙ rows-narrowed [] c (x ∷ y ∷ []) [] vs
-    (elim [ zero ↦ λ h. lx | suc z ↦ elim z [ zero ↦ λ h. ly | suc w ↦ λ h. absurd (omega arith) ] ]) (elim [ zero ↦ λ h. bx | suc z ↦ elim z [ zero ↦ λ h. bY | suc w ↦ λ h. absurd (omega arith) ] ]) no_words
+    (below_two (λ z. length (get_or (x ∷ y ∷ []) z []) ≡ 64) lx ly) (below_two (λ z. Words (get_or (x ∷ y ∷ []) z [])) bx bY) no_words
     (Met test x y) pair (λ α. record { first = α.text 0; second = α.text 1 })
     (λ p m. record {
-      texts = elim [ zero ↦ λ h. m.in_first | suc z ↦ elim z [ zero ↦ λ h. m.in_second | suc w ↦ λ h. absurd (omega arith) ] ];
+      texts = below_two (λ z. InRow (get_or (x ∷ y ∷ []) z []) ((pair p).text z)) m.in_first m.in_second;
       values = λ n h. absurd (omega arith);
       meeting = same (pair p) ∙ m.meeting;
     })
     (λ α t. record { in_first = t.texts 0 (omega arith); in_second = t.texts 1 (omega arith); meeting = sym (same α) ∙ t.meeting })
-    (λ α t. elim [ zero ↦ λ h. refl | suc z ↦ elim z [ zero ↦ λ h. refl | suc w ↦ λ h. absurd (omega arith) ] ]) (λ α t n h. absurd (omega arith))
-    (rx ∷ ry ∷ []) [] refl refl (elim [ zero ↦ λ h. sx | suc z ↦ elim z [ zero ↦ λ h. sy | suc w ↦ λ h. absurd (omega arith) ] ]) (λ n h. absurd (omega arith))
+    (λ α t. below_two (λ z. cond (eqb z 0) (α.text 0) (α.text 1) ≡ α.text z) refl refl) (λ α t n h. absurd (omega arith))
+    (rx ∷ ry ∷ []) [] refl refl (below_two (λ z. Supports (Met test x y) (λ p. text_bit ((pair p).text z)) 64 (get_or (rx ∷ ry ∷ []) z [])) sx sy) (λ n h. absurd (omega arith))
     ∙ ap (λ (l : List ℕ). narrowed (alone 2 0 []) c (x ++ l)) (append-nil y)

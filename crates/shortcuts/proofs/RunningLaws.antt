@@ -34,6 +34,7 @@ use Rattle.shortcuts.proofs.WaitLaws.{in_trims, in_constraints, by-step, ranged-
 
 only : (x : ℕ) (v : Variable) → In v (variables (always x)) → v ≡ str x
 unfolding variables
+only x v (Memᴰ.tail x5) = elim x5 [ ]
 only x v (Memᴰ.head e) = e
 
 same_text : (x y : ℕ) → str x ≡ str y → x ≡ y

@@ -42,6 +42,7 @@ by-step P C f g c m = ⊎_elim
 
 pub ranged-trim : (P : Problem) (x : ℕ) → x < P.strings → Ranged P (always x)
 unfolding variables
+ranged-trim P x h v (Memᴰ.tail x5) = elim x5 [ ]
 ranged-trim P x h v (Memᴰ.head e) = subst (InRange P) (sym e) h
 
 pub ranged-step : (P : Problem) → WellFormed P → (c : Constraint) → In c (steps P) → Ranged P c

@@ -6,7 +6,7 @@ use native.Mathlib.Omega.{arith}
 use lib.Dec.{leb, ltb}
 use lib.Pow.{pow_pos}
 use borrow.Author.Tests.{ltb-true, ltb-false, le-leb, lt-leb, lt-ltb}
-use Rattle.model.specs.Words.{bit, none_from}
+use Rattle.model.specs.Words.{none_from}
 use Rattle.laws.proofs.ListLaws.{in_all}
 use Rattle.laws.proofs.WordLaws.{bit_high, of-bits, in_bits, none_from-bits}
 use Rattle.laws.proofs.ShiftLaws.{low_word}
