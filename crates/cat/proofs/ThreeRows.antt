@@ -2,19 +2,21 @@
 use mathlib.Core.Path.{◌≡◌, refl, sym, ap, ◌∙◌}
 use mathlib.Core.Bool.{Bool, true, cond}
 use mathlib.Core.List.{List, [], ◌∷◌, ◌++◌, append-nil}
-use Prim.Native.Nat.{ℕ, zero, suc}
+use Prim.Native.Nat.{ℕ}
 use native.Mathlib.Omega.{arith}
 use lib.Dec.{eqb}
-use lib.ListN.{length}
+use lib.ListN.{length, get_or}
 use Rattle.model.specs.Lists.{from, upto}
 use Rattle.model.specs.Words.{Words}
 use Rattle.model.specs.Domains.{str}
 use Rattle.model.specs.Constraints.{Choice, Constraint, variables, meets}
+use Rattle.model.specs.Solutions.{text_bit}
 use Rattle.model.specs.Support.{narrowed}
 use Rattle.model.specs.Rounds.{variables_of}
 use Rattle.rows.specs.Rows.{alone}
+use Rattle.rows.proofs.Positions.{below_three}
 use Rattle.rows.proofs.Alone.{rows-narrowed, no_words}
-use Rattle.laws.specs.Supported.{InRow}
+use Rattle.laws.specs.Supported.{InRow, Supports}
 use Rattle.cat.specs.Splits.{Three, Supported}
 
 -- a string of each row, and the three meet the test
@@ -35,18 +37,10 @@ unfolding variables_of alone upto from
 three-narrowed c test vs same x y z lx ly lz bx bY bz rx ry rz s =
     ap (λ (l : List ℕ). rx ++ (ry ++ l)) (sym (append-nil rz))
     ∙ rows-narrowed [] c (x ∷ y ∷ z ∷ []) [] vs
-    (elim [ zero ↦ λ h. lx | suc a ↦ elim a [ zero ↦ λ h. ly | suc b ↦ elim b [ zero ↦ λ h. lz | suc d ↦ λ h. absurd (omega arith) ] ] ])
-    (elim [ zero ↦ λ h. bx | suc a ↦ elim a [ zero ↦ λ h. bY | suc b ↦ elim b [ zero ↦ λ h. bz | suc d ↦ λ h. absurd (omega arith) ] ] ]) no_words
+    (below_three (λ a. length (get_or (x ∷ y ∷ z ∷ []) a []) ≡ 64) lx ly lz) (below_three (λ a. Words (get_or (x ∷ y ∷ z ∷ []) a [])) bx bY bz) no_words
     (Met test x y z) triple (λ α. record { first = α.text 0; second = α.text 1; third = α.text 2 })
     (λ v m. record {
-      texts = elim [
-        | zero ↦ λ h. m.in_first
-        | suc a ↦ elim a [
-          | zero ↦ λ h. m.in_second
-          | suc b ↦ elim b
-              [ zero ↦ λ h. m.in_third | suc d ↦ λ h. absurd (omega arith) ]
-        ]
-      ];
+      texts = below_three (λ a. InRow (get_or (x ∷ y ∷ z ∷ []) a []) ((triple v).text a)) m.in_first m.in_second m.in_third;
       values = λ n h. absurd (omega arith);
       meeting = same (triple v) ∙ m.meeting;
     })
@@ -57,11 +51,9 @@ three-narrowed c test vs same x y z lx ly lz bx bY bz rx ry rz s =
       meeting = sym (same α)
           ∙ t.meeting;
     })
-    (λ α t. elim [ zero ↦ λ h. refl | suc a ↦ elim a [ zero ↦ λ h. refl | suc b ↦ elim b [ zero ↦ λ h. refl | suc d ↦ λ h. absurd (omega arith) ] ] ])
+    (λ α t. below_three (λ a. cond (eqb a 0) (α.text 0) (cond (eqb a 1) (α.text 1) (α.text 2)) ≡ α.text a) refl refl refl)
     (λ α t n h. absurd (omega arith))
     (rx ∷ ry ∷ rz ∷ []) [] refl refl
-    (elim [
-      | zero ↦ λ h. s.firsts
-      | suc a ↦ elim a [ zero ↦ λ h. s.seconds | suc b ↦ elim b [ zero ↦ λ h. s.thirds | suc d ↦ λ h. absurd (omega arith) ] ]
-    ]) (λ n h. absurd (omega arith))
+    (below_three (λ a. Supports (Met test x y z) (λ v. text_bit ((triple v).text a)) 64 (get_or (rx ∷ ry ∷ rz ∷ []) a [])) s.firsts s.seconds s.thirds)
+    (λ n h. absurd (omega arith))
     ∙ ap (λ (l : List ℕ). narrowed (alone 3 0 []) c (x ++ (y ++ l))) (append-nil z)

@@ -5,10 +5,10 @@ use mathlib.Core.Logic.{◌≢◌}
 use mathlib.Core.Bool.{Bool, true, false, not, false≢true}
 use mathlib.Core.List.Memᴰ
 use mathlib.Core.List.{List, [], ◌∷◌, ◌++◌, append-nil}
-use Prim.Native.Nat.{ℕ, zero, suc}
+use Prim.Native.Nat.{ℕ, zero, suc, ◌+◌, ◌≤◌}
 use native.Mathlib.Omega.{arith}
 use lib.Dec.{eqb}
-use lib.ListN.{length}
+use lib.ListN.{length, get_or}
 use Rattle.model.specs.Words.{word}
 use Rattle.model.specs.Domains.{row}
 use Rattle.model.specs.Constraints.{Constraint, Automaton}
@@ -16,7 +16,28 @@ use Rattle.model.specs.Support.{narrowed}
 use Rattle.rows.specs.Rows.{alone}
 use Rattle.inplace.specs.declared.Change.{Change}
 use Rattle.inplace.specs.InTable.{Tidy, Out, Flag, zeros}
-use Rattle.inplace.specs.InPlace.{InPlace}
+use Rattle.inplace.specs.InPlace.{InPlace, flag}
+use Rattle.rows.proofs.Positions.{below_one, below_two, below_three}
+
+-- flags past the first of one, two or three variables say nothing
+
+false_after_one : (a : Bool) (j : ℕ) → 1 ≤ j → get_or (a ∷ false ∷ false ∷ []) j false ≡ false
+false_after_one a zero h = absurd (omega arith)
+false_after_one a (suc zero) h = refl
+false_after_one a (suc (suc zero)) h = refl
+false_after_one a (suc (suc (suc j))) h = refl
+
+false_after_two : (a b : Bool) (j : ℕ) → 2 ≤ j → get_or (a ∷ b ∷ false ∷ []) j false ≡ false
+false_after_two a b zero h = absurd (omega arith)
+false_after_two a b (suc zero) h = absurd (omega arith)
+false_after_two a b (suc (suc zero)) h = refl
+false_after_two a b (suc (suc (suc j))) h = refl
+
+false_after_three : (a b c : Bool) (j : ℕ) → 3 ≤ j → get_or (a ∷ b ∷ c ∷ []) j false ≡ false
+false_after_three a b c zero h = absurd (omega arith)
+false_after_three a b c (suc zero) h = absurd (omega arith)
+false_after_three a b c (suc (suc zero)) h = absurd (omega arith)
+false_after_three a b c (suc (suc (suc j))) h = refl
 
 -- ---- one string
 
@@ -29,9 +50,9 @@ module _ (ds : List Automaton) (d : Constraint) (x : ℕ) (T U : List ℕ) (size
     others = λ k f g. others k (f x (Memᴰ.head refl));
     done = λ q. append-nil (row U x) ∙ e ∙ ap (λ (r : List ℕ). narrowed (alone 1 0 ds) d r) (sym (append-nil (row T x)));
     tidy = λ q z k. elim k [ Memᴰ.head p ↦ rw p tx | Memᴰ.tail k ↦ elim k [ ] ];
-    rows = λ q z. elim z [ zero ↦ λ h. fx | suc z ↦ λ h. absurd (omega arith) ];
+    rows = λ q. below_one (λ j. Flag (row T (get_or (x ∷ []) j 0)) (row U (get_or (x ∷ []) j 0)) (flag j (record { left = true; x = cx; y = false; z = false }))) fx;
     numbers = λ q z. λ h. absurd (omega arith);
-    no_more = λ q z. elim z [ zero ↦ λ h. absurd (omega arith) | suc z ↦ elim z [ zero ↦ λ h. refl | suc z ↦ elim z [ zero ↦ λ h. refl | suc z ↦ λ h. refl ] ] ];
+    no_more = λ q z h. false_after_one cx z (omega arith);
     none = λ q. absurd (false≢true (sym q));
   }
 
@@ -58,9 +79,9 @@ module _ (d : Constraint) (x y : ℕ) (T U : List ℕ) (size : length U ≡ leng
     others = λ k f g. others k (f x (Memᴰ.head refl)) (f y (Memᴰ.tail (Memᴰ.head refl)));
     done = λ q. ap (λ (r : List ℕ). row U x ++ r) (append-nil (row U y)) ∙ e ∙ ap (λ (r : List ℕ). narrowed (alone 2 0 []) d r) (sym (ap (λ (r : List ℕ). row T x ++ r) (append-nil (row T y))));
     tidy = λ q z k. elim k [ Memᴰ.head p ↦ rw p tx | Memᴰ.tail k ↦ elim k [ Memᴰ.head p ↦ rw p ty | Memᴰ.tail k ↦ elim k [ ] ] ];
-    rows = λ q z. elim z [ zero ↦ λ h. fx | suc z ↦ elim z [ zero ↦ λ h. fy | suc z ↦ λ h. absurd (omega arith) ] ];
+    rows = λ q. below_two (λ j. Flag (row T (get_or (x ∷ y ∷ []) j 0)) (row U (get_or (x ∷ y ∷ []) j 0)) (flag j (record { left = true; x = cx; y = cy; z = false }))) fx fy;
     numbers = λ q z. λ h. absurd (omega arith);
-    no_more = λ q z. elim z [ zero ↦ λ h. absurd (omega arith) | suc z ↦ elim z [ zero ↦ λ h. absurd (omega arith) | suc z ↦ elim z [ zero ↦ λ h. refl | suc z ↦ λ h. refl ] ] ];
+    no_more = λ q z h. false_after_two cx cy z (omega arith);
     none = λ q. absurd (false≢true (sym q));
   }
 
@@ -87,9 +108,9 @@ module _ (d : Constraint) (x y z : ℕ) (T U : List ℕ) (size : length U ≡ le
     others = λ k f g. others k (f x (Memᴰ.head refl)) (f y (Memᴰ.tail (Memᴰ.head refl))) (f z (Memᴰ.tail (Memᴰ.tail (Memᴰ.head refl))));
     done = λ q. ap (λ (r : List ℕ). row U x ++ (row U y ++ r)) (append-nil (row U z)) ∙ e ∙ ap (λ (r : List ℕ). narrowed (alone 3 0 []) d r) (sym (ap (λ (r : List ℕ). row T x ++ (row T y ++ r)) (append-nil (row T z))));
     tidy = λ q z k. elim k [ Memᴰ.head p ↦ rw p tx | Memᴰ.tail k ↦ elim k [ Memᴰ.head p ↦ rw p ty | Memᴰ.tail k ↦ elim k [ Memᴰ.head p ↦ rw p tz | Memᴰ.tail k ↦ elim k [ ] ] ] ];
-    rows = λ q z. elim z [ zero ↦ λ h. fx | suc z ↦ elim z [ zero ↦ λ h. fy | suc z ↦ elim z [ zero ↦ λ h. fz | suc z ↦ λ h. absurd (omega arith) ] ] ];
+    rows = λ q. below_three (λ j. Flag (row T (get_or (x ∷ y ∷ z ∷ []) j 0)) (row U (get_or (x ∷ y ∷ z ∷ []) j 0)) (flag j (record { left = true; x = cx; y = cy; z = cz }))) fx fy fz;
     numbers = λ q z. λ h. absurd (omega arith);
-    no_more = λ q z. elim z [ zero ↦ λ h. absurd (omega arith) | suc z ↦ elim z [ zero ↦ λ h. absurd (omega arith) | suc z ↦ elim z [ zero ↦ λ h. absurd (omega arith) | suc z ↦ λ h. refl ] ] ];
+    no_more = λ q z h. false_after_three cx cy cz z (omega arith);
     none = λ q. absurd (false≢true (sym q));
   }
 
@@ -116,9 +137,9 @@ module _ (d : Constraint) (x i : ℕ) (T U : List ℕ) (size : length U ≡ leng
     others = λ k f g. others k (f x (Memᴰ.head refl)) (g i (Memᴰ.head refl));
     done = λ q. e;
     tidy = λ q z k. elim k [ Memᴰ.head p ↦ rw p tx | Memᴰ.tail k ↦ elim k [ ] ];
-    rows = λ q z. elim z [ zero ↦ λ h. fx | suc z ↦ λ h. absurd (omega arith) ];
-    numbers = λ q z. elim z [ zero ↦ λ h. fi | suc z ↦ λ h. absurd (omega arith) ];
-    no_more = λ q z. elim z [ zero ↦ λ h. absurd (omega arith) | suc z ↦ elim z [ zero ↦ λ h. absurd (omega arith) | suc z ↦ elim z [ zero ↦ λ h. refl | suc z ↦ λ h. refl ] ] ];
+    rows = λ q. below_one (λ j. Flag (row T (get_or (x ∷ []) j 0)) (row U (get_or (x ∷ []) j 0)) (flag j (record { left = true; x = cx; y = ci; z = false }))) fx;
+    numbers = λ q. below_one (λ j. flag (length (x ∷ []) + j) (record { left = true; x = cx; y = ci; z = false }) ≡ not (eqb (word T (get_or (i ∷ []) j 0)) (word U (get_or (i ∷ []) j 0)))) fi;
+    no_more = λ q z h. false_after_two cx ci z (omega arith);
     none = λ q. absurd (false≢true (sym q));
   }
 
@@ -145,9 +166,9 @@ module _ (d : Constraint) (x y i : ℕ) (T U : List ℕ) (size : length U ≡ le
     others = λ k f g. others k (f x (Memᴰ.head refl)) (f y (Memᴰ.tail (Memᴰ.head refl))) (g i (Memᴰ.head refl));
     done = λ q. e;
     tidy = λ q z k. elim k [ Memᴰ.head p ↦ rw p tx | Memᴰ.tail k ↦ elim k [ Memᴰ.head p ↦ rw p ty | Memᴰ.tail k ↦ elim k [ ] ] ];
-    rows = λ q z. elim z [ zero ↦ λ h. fx | suc z ↦ elim z [ zero ↦ λ h. fy | suc z ↦ λ h. absurd (omega arith) ] ];
-    numbers = λ q z. elim z [ zero ↦ λ h. fi | suc z ↦ λ h. absurd (omega arith) ];
-    no_more = λ q z. elim z [ zero ↦ λ h. absurd (omega arith) | suc z ↦ elim z [ zero ↦ λ h. absurd (omega arith) | suc z ↦ elim z [ zero ↦ λ h. absurd (omega arith) | suc z ↦ λ h. refl ] ] ];
+    rows = λ q. below_two (λ j. Flag (row T (get_or (x ∷ y ∷ []) j 0)) (row U (get_or (x ∷ y ∷ []) j 0)) (flag j (record { left = true; x = cx; y = cy; z = ci }))) fx fy;
+    numbers = λ q. below_one (λ j. flag (length (x ∷ y ∷ []) + j) (record { left = true; x = cx; y = cy; z = ci }) ≡ not (eqb (word T (get_or (i ∷ []) j 0)) (word U (get_or (i ∷ []) j 0)))) fi;
+    no_more = λ q z h. false_after_three cx cy ci z (omega arith);
     none = λ q. absurd (false≢true (sym q));
   }
 

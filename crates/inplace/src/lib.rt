@@ -93,7 +93,7 @@ pub fn put(t: &mut [u64], i: usize, w: u64) -> bool
 }
 
 // How many places met, and which side lost a bit.
-#[derive(Drop)]
+#[derive(Clone, Copy)]
 pub struct Met {
     pub m: usize,
     pub x: bool,
@@ -161,7 +161,7 @@ pub fn replace(t: &mut [u64], x: usize, r: &[u64], j: usize) -> bool
 
 // What a step in place leaves: whether there is a choice, and, where there is one, which arguments of the constraint lost a bit, in their order. An argument that is
 // no variable loses none.
-#[derive(Drop)]
+#[derive(Clone, Copy)]
 pub struct Change {
     pub left: bool,
     pub x: bool,

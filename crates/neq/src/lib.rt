@@ -50,7 +50,7 @@ fn alike(t: &[u64], a: usize, b: usize, start: usize, l: usize) -> usize
 }
 
 // What becomes of a row: whether it keeps a string, and whether it lost a bit.
-#[derive(Drop)]
+#[derive(Clone, Copy)]
 struct Lost {
     left: bool,
     changed: bool,

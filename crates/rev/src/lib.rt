@@ -15,7 +15,7 @@ ghost use Rattle.inplace.specs.InPlace.{InPlace};
 ghost use Rattle.rev.specs.Turned.{Turn, Turns, Added, Mirrored, Common, Allowed, Widened, Pair};
 
 // How many places met, and whether one lost a symbol.
-#[derive(Drop)]
+#[derive(Clone, Copy)]
 struct Faced {
     m: usize,
     changed: bool,

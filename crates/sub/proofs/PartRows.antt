@@ -6,7 +6,7 @@ use mathlib.Core.List.{List, [], ◌∷◌, ◌++◌}
 use Prim.Native.Nat.{ℕ, zero, suc, ◌^◌, ◌<◌}
 use native.Mathlib.Omega.{arith}
 use lib.Dec.{eqb}
-use lib.ListN.{length}
+use lib.ListN.{length, get_or}
 use Rattle.model.specs.Lists.{from, upto}
 use Rattle.model.specs.Words.{bit, Words}
 use Rattle.model.specs.Domains.{str, num}
@@ -15,6 +15,7 @@ use Rattle.model.specs.Solutions.{text_bit}
 use Rattle.model.specs.Support.{narrowed}
 use Rattle.model.specs.Rounds.{variables_of}
 use Rattle.rows.specs.Rows.{alone}
+use Rattle.rows.proofs.Positions.{below_two}
 use Rattle.rows.proofs.Alone.{rows-narrowed, one_word}
 use Rattle.laws.specs.Supported.{InRow, Supports}
 
@@ -47,11 +48,10 @@ pub part-narrowed : (c : Constraint) (test : List ℕ → List ℕ → ℕ → B
     → rx ++ (ry ++ (rn ∷ [])) ≡ narrowed (alone 2 1 []) c (x ++ (y ++ (n ∷ [])))
 unfolding variables_of alone upto from
 part-narrowed c test vs same x y n lx ly bx bY bn rx ry rn s = rows-narrowed [] c (x ∷ y ∷ []) (n ∷ []) vs
-    (elim [ zero ↦ λ h. lx | suc a ↦ elim a [ zero ↦ λ h. ly | suc b ↦ λ h. absurd (omega arith) ] ])
-    (elim [ zero ↦ λ h. bx | suc a ↦ elim a [ zero ↦ λ h. bY | suc b ↦ λ h. absurd (omega arith) ] ]) (one_word n bn)
+    (below_two (λ a. length (get_or (x ∷ y ∷ []) a []) ≡ 64) lx ly) (below_two (λ a. Words (get_or (x ∷ y ∷ []) a [])) bx bY) (one_word n bn)
     (Met test x y n) placement (λ α. record { whole = α.text 0; part = α.text 1; start = α.value 0 })
     (λ v m. record {
-      texts = elim [ zero ↦ λ h. m.in_whole | suc a ↦ elim a [ zero ↦ λ h. m.in_part | suc b ↦ λ h. absurd (omega arith) ] ];
+      texts = below_two (λ a. InRow (get_or (x ∷ y ∷ []) a []) ((placement v).text a)) m.in_whole m.in_part;
       values = elim [ zero ↦ λ h. m.in_start | suc a ↦ λ h. absurd (omega arith) ];
       meeting = same (placement v) ∙ m.meeting;
     })
@@ -61,7 +61,7 @@ part-narrowed c test vs same x y n lx ly bx bY bn rx ry rn s = rows-narrowed [] 
       in_start = t.values 0 (omega arith);
       meeting = sym (same α) ∙ t.meeting;
     })
-    (λ α t. elim [ zero ↦ λ h. refl | suc a ↦ elim a [ zero ↦ λ h. refl | suc b ↦ λ h. absurd (omega arith) ] ])
+    (λ α t. below_two (λ a. cond (eqb a 0) (α.text 0) (α.text 1) ≡ α.text a) refl refl)
     (λ α t. elim [ zero ↦ λ h. refl | suc a ↦ λ h. absurd (omega arith) ])
-    (rx ∷ ry ∷ []) (rn ∷ []) refl refl (elim [ zero ↦ λ h. s.wholes | suc a ↦ elim a [ zero ↦ λ h. s.parts | suc b ↦ λ h. absurd (omega arith) ] ])
+    (rx ∷ ry ∷ []) (rn ∷ []) refl refl (below_two (λ a. Supports (Met test x y n) (λ v. text_bit ((placement v).text a)) 64 (get_or (rx ∷ ry ∷ []) a [])) s.wholes s.parts)
     (elim [ zero ↦ λ h. s.starts | suc a ↦ λ h. absurd (omega arith) ])
