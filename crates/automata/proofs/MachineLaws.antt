@@ -1,5 +1,5 @@
 -- An automaton in its bytes: what the model reads there is whole, and where each move stands. Assumes nothing.
-use Rattle.std.proofs.Common.{◌≡◌, ℕ, suc, ◌+◌, ◌*◌, ◌%◌, ◌^◌, ◌<◌, ◌≤◌, Bool, true, false, cond, ◌||◌, eqb, ltb, ◌≢◌, ◌⊎◌, List, [], map, length, get_or, drop, sym, refl, ap, ◌∙◌, subst, inl, inr, ⊎_elim, mul-le-mul_right, suc-mul, arith, length-drop, length-take-le, get_or-drop, get_or-take, ltb-true, lt-ltb, eq-eqb, ne_eqb, eqb-true, leb-true}
+use Rattle.std.proofs.Common.{◌≡◌, ℕ, suc, ◌+◌, ◌*◌, ◌%◌, ◌^◌, ◌<◌, ◌≤◌, Bool, true, cond, ◌||◌, eqb, ltb, ◌≢◌, ◌⊎◌, List, [], map, length, get_or, drop, sym, refl, ap, ◌∙◌, subst, inl, inr, ⊎_elim, mul-le-mul_right, suc-mul, arith, length-drop, length-take-le, get_or-drop, get_or-take, ltb-true, lt-ltb, eq-eqb, ne_eqb, eqb-true, leb-true}
 use mathlib.Core.Bool.{false≢true}
 use mathlib.Core.Option.{Option, none, some, none-ne-some, some-injective}
 use lib.ListN
@@ -113,7 +113,7 @@ module _ (k : ℕ) (bs : List ℕ) (w : Whole k bs) (p a : ℕ) (h : p < state_c
   move_byte =
       let e : 5 + (p * k + a) ≡ 5 + p * k + a = omega arith in
       let rows : List (List ℕ) = pieces (state_count bs) k (drop 5 bs) in
-      ap (λ (r : List (Option ℕ)). get_or r a none) (ListN.get_d_map (map target) rows p [])
+      ap (λ (r : List (Option ℕ)). get_or r a none) (ListN.get_or-map (map target) rows p [])
       ∙ get_d_map target (get_or rows p []) a 0 none (subst (λ (n : ℕ). a < n) (sym row-long) l)
       ∙ ap target (pieces-word (state_count bs) k (drop 5 bs) p a h l ∙ get_or-drop 5 bs (p * k + a) 0 ∙ ap (λ (j : ℕ). get_or bs j 0) e)
 

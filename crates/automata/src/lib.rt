@@ -44,7 +44,7 @@ pub fn accepting(d: &[u8]) -> u32
 }
 
 // What a state moves to by a symbol: a state, or nothing.
-#[derive(Drop)]
+#[derive(Clone, Copy)]
 pub enum Move {
     To(usize),
     Nothing,

@@ -12,14 +12,14 @@ ghost use Rattle.automata.specs.Kinds.{Lacks};
 use crate::{below, enters, mark, moves, next, only, states};
 
 // Whether a state moves into a set, and the symbols that have been found so far.
-#[derive(Drop)]
+#[derive(Clone, Copy)]
 struct Entered {
     enters: bool,
     symbols: u64,
 }
 
 // The states that move into a set, and the symbols by which they do.
-#[derive(Drop)]
+#[derive(Clone, Copy)]
 pub struct Entrants {
     pub states: u32,
     pub symbols: u64,

@@ -19,7 +19,7 @@ use Rattle.laws.proofs.ListLaws.{map_cong}
 use Rattle.laws.proofs.WordLaws.{of-bits}
 use Rattle.model.specs.Pattern.{Pattern}
 use Rattle.model.specs.PatternText.{parsed, parse, symbol_at}
-use Rattle.model.specs.PatternStates.{State, start, passed, when, nullable, first, last, follow, having, ahead, advance}
+use Rattle.model.specs.PatternStates.{State, start, passed, when, first, follow, having, ahead, advance}
 use Rattle.model.specs.Numbering.{number_in, explore}
 use Rattle.model.specs.Compile.{same_state, successors, states, automaton_of, bytes_of, byte_of, encoded, letters_below, when_parsed, compiled_bytes}
 use Rattle.patterns.proofs.AutomatonLaws.{Closed, move-is, states-closed}

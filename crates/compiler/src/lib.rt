@@ -13,7 +13,7 @@ ghost use Rattle.numbering.specs.Exploring.{joined, state_at, listed, advance_in
 ghost use Rattle.compiler.specs.Answers.{Sorted, final_in, Rowed, Told};
 
 // What comes of a text: the number of the refusal, or of the bytes written.
-#[derive(Drop)]
+#[derive(Clone, Copy)]
 pub enum Outcome {
     Refused(u8),
     Written(usize),

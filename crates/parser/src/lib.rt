@@ -10,7 +10,7 @@ ghost use Rattle.model.specs.PatternStates.{when};
 ghost use Rattle.parser.specs.Reads.{EitherOf, BothOf, Linked, Starred, Says, Within};
 
 // What was read: the place after it, whether the empty string is among its strings, and the letters that come first and last, as sets of places.
-#[derive(Drop)]
+#[derive(Clone, Copy)]
 pub struct Part {
     pub end: usize,
     pub nullable: bool,
@@ -18,7 +18,7 @@ pub struct Part {
     pub last: u64,
 }
 
-#[derive(Drop)]
+#[derive(Clone, Copy)]
 pub enum Read {
     Found(Part),
     Bad,

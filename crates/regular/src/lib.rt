@@ -28,7 +28,7 @@ ghost use Rattle.regular.specs.Backwards.{Going, Backward};
 
 // What the automaton was asked at a place, and its answer: the states that the set moves to by the word. And the word of several symbols that was asked last,
 // with one symbol of each kind that it has.
-#[derive(Drop)]
+#[derive(Clone, Copy)]
 struct Asked {
     set: u64,
     symbols: u64,
