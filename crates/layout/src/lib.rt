@@ -15,7 +15,7 @@ use reader::Reader;
 
 // The counts of symbols, strings, numbers, automata and constraints, and where the parts lie: the table from byte 0 on, constraints and automata where said,
 // and the trailer at `end`.
-#[derive(Drop)]
+#[derive(Clone, Copy)]
 pub struct Parts {
     pub k: usize,
     pub s: usize,
@@ -28,14 +28,14 @@ pub struct Parts {
 }
 
 // The paper's number of the refusal, or the parts.
-#[derive(Drop)]
+#[derive(Clone, Copy)]
 pub enum Layout {
     Refused(u8),
     Laid(Parts),
 }
 
 // The numbers of the trailer, in its order. The last three are distances from its first byte back.
-#[derive(Drop)]
+#[derive(Clone, Copy)]
 struct Trailer {
     k: u32,
     s: u32,

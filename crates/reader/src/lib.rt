@@ -1,6 +1,5 @@
 // A reader over lent bytes that remembers its place, and the number that it read last. It is handed back at the next place, so a run of reads is a run of
-// readers. The struct holds a reference, so the proof of each function over it is a walk by hand: `next` and `left` take it apart and leave the work to
-// `number_at` and `left_at`, and `record` hands it to `next`.
+// readers. `next` and `left` take it apart and leave the work to `number_at` and `left_at`, and `record` hands it to `next`.
 //
 // Assumes nothing. `requires` asks that the bytes are there, and that the number fits.
 
@@ -10,7 +9,7 @@ ghost use Rattle.std.specs.Prelude.{◌≡◌, ◌+◌, ◌-◌, ◌≤◌, leng
 ghost use Rattle.model.specs.Layout.{little, part};
 ghost use Rattle.reader.specs.Places.{after};
 
-#[derive(Drop)]
+#[derive(Clone, Copy)]
 pub struct Reader<'a> {
     pub bytes: &'a [u8],
     pub at: usize,

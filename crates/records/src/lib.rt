@@ -16,7 +16,7 @@ ghost use Rattle.records.specs.Records.{constraint_of, decoded_of, bytes_of, is_
 use reader::Reader;
 
 // The kinds 1 to 7 with their arguments.
-#[derive(Drop)]
+#[derive(Clone, Copy)]
 pub enum Record {
     Eq(u8, u8),
     Neq(u8, u8),
@@ -28,7 +28,7 @@ pub enum Record {
 }
 
 // What four bytes are: a constraint, or none.
-#[derive(Drop)]
+#[derive(Clone, Copy)]
 pub enum Decoded {
     Constraint(Record),
     NotOne,

@@ -4,7 +4,7 @@ use mathlib.Core.Bool.{Bool, true, false, not, false≢true}
 use mathlib.Core.List.{List}
 use Prim.Native.Nat.{ℕ, ◌+◌, ◌*◌, ◌/◌, ◌%◌, ◌<◌}
 use native.Mathlib.Omega.{arith}
-use borrow.Author.Tests.{eq-eqb, ne_eqb, not-true, not-false}
+use borrow.Author.Tests.{eq-eqb, ne_eqb, not-false}
 use borrow.Author.Count.{below_more}
 use Rattle.model.specs.Lists.{from, upto}
 use Rattle.model.specs.Words.{word, none_from}
@@ -47,12 +47,12 @@ module _ (k s : ℕ) (T : List ℕ) (f : ℕ → ℕ) (same : (i : ℕ) → i < 
       ap (none_from k) (sym (same (64 * x + p) h)) ∙ sym e ∙ l.passed (64 * x + p) h))
 
   -- some word w has not
-  pub some-high : (i : ℕ) (w : ℕ) (r : Bool) → i < 64 * s → w ≡ f i → r ≡ low_at k i w → not r ≡ true → symbols_below k s T ≡ false
+  pub some-high : (i : ℕ) (w : ℕ) (r : Bool) → i < 64 * s → w ≡ f i → r ≡ low_at k i w → r ≡ false → symbols_below k s T ≡ false
   unfolding symbols_below
   some-high i w r h e q n = go (symbols_below k s T) refl
     where
       high : low_at k i w ≡ false
-      high = sym q ∙ not-true r n
+      high = sym q ∙ n
 
       place : i % 64 ≡ 0 → ⊥
       place z = false≢true (sym high ∙ length-word-low k i w z)
