@@ -140,7 +140,7 @@ pub fn waking(ix: &[u64], s: usize, r: records::Record, n: inplace::Change) -> u
 // ---- the lent index
 
 // Where some variables stand: the first `count` of `at`.
-#[derive(Drop)]
+#[derive(Clone, Copy)]
 pub struct Positions {
     pub at: [usize; 3],
     pub count: usize,

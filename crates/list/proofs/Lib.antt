@@ -2,4 +2,3 @@
 pub mod StepWalkLaws
 pub mod ListedLaws
 pub mod CopyLaws
-pub mod LendingLaws

@@ -28,7 +28,7 @@ use Rattle.format.proofs.ContentLaws.{usable-counts}
 use Rattle.steps.specs.Step.{Step}
 use Rattle.list.specs.declared.Constraint.{Constraint}
 use Rattle.list.specs.Listed.{meaning, blank, OfFile, Listed}
-use Rattle.list.proofs.StepWalkLaws.{Walked, walk_start, walk_step, walk-lent, walk_ran}
+use Rattle.list.proofs.StepWalkLaws.{Walked, walk_step, walk-lent, walk_ran}
 
 module _ (file : List ℕ) (p : Parts) (T : List ℕ) where
   abbrev P : Problem
@@ -66,9 +66,6 @@ module _ (file : List ℕ) (p : Parts) (T : List ℕ) where
 
   -- ---- constraint j of the list
 
-  pub inside : (cs : List Constraint) (j : ℕ) → Listed file p cs → j < p.c → j < length cs
-  inside cs j l h = omega (arith, l.long)
-
   of-list : (cs : List Constraint) (j : ℕ) → Usable file p → Listed file p cs → j < p.c → OfFile file p (get_or cs j blank)
   of-list cs j u l h =
       let n = (usable-counts file p u).constraints in
@@ -84,38 +81,21 @@ module _ (file : List ℕ) (p : Parts) (T : List ℕ) where
 
   -- ---- all of them, one after the other
 
-  -- what is reached after the first j constraints
-  pub record Reached : Type 0 where
-    pub j : ℕ
-    pub table : List ℕ
-    pub within : j ≤ p.c
-    pub walked : Walked P P.constraints T j table
+  -- after the first j constraints
+  module _ (cs : List Constraint) (pre : Usable file p × (lendable P T ≡ true) × Listed file p cs) (j : ℕ) (X : List ℕ)
+      (walked : Walked P P.constraints T j X) where
+    pub listed_ran : p.c ≤ j → X ≡ run P P.constraints T
+    listed_ran l = walk_ran P P.constraints T j X (omega (arith, (usable-counts file p pre.0).constraints)) walked
 
-  abbrev pub reached-first : Reached
-  reached-first = record { j = 0; table = T; within = omega arith; walked = walk_start P P.constraints T }
+    module _ (less : j < p.c) where
+      pub asks_next : Usable file p × (lendable P X ≡ true) × OfFile file p (get_or cs j blank)
+      asks_next = (pre.0, walk-lent P P.constraints T j X pre.1 walked, of-list cs j pre.0 pre.2 less)
 
-  module _ (cs : List Constraint) (pre : Usable file p × (lendable P T ≡ true) × Listed file p cs) (at : Reached) where
-    lent : lendable P at.table ≡ true
-    lent = walk-lent P P.constraints T at.j at.table pre.1 at.walked
-
-    pub reached-length : length at.table ≡ length T
-    reached-length = lendable-length P at.table lent ∙ sym (lendable-length P T pre.1)
-
-    pub reached_ran : p.c ≤ at.j → at.table ≡ run P P.constraints T
-    reached_ran l = walk_ran P P.constraints T at.j at.table (omega (arith, (usable-counts file p pre.0).constraints)) at.walked
-
-    module _ (less : at.j < p.c) where
-      pub asks_next : Usable file p × (lendable P at.table ≡ true) × OfFile file p (get_or cs at.j blank)
-      asks_next = (pre.0, lent, of-list cs at.j pre.0 pre.2 less)
-
-      abbrev pub reached-next : (U : List ℕ) → ((d : model.Constraint) → meaning p (get_or cs at.j blank) ≡ some d → U ≡ narrowed P d at.table) → Reached
-      reached-next U s = record {
-        j = at.j + 1;
-        table = U;
-        within = omega arith;
-        walked = walk_step P P.constraints T at.j at.table U (omega (arith, (usable-counts file p pre.0).constraints))
-            (s (get_or P.constraints at.j (always 0)) (pre.2.at at.j less)) at.walked;
-      }
+      pub walks_next : {U : List ℕ} → ((d : model.Constraint) → meaning p (get_or cs j blank) ≡ some d → U ≡ narrowed P d X)
+          → Walked P P.constraints T (j + 1) U
+      walks_next {U} s =
+          walk_step P P.constraints T j X U (omega (arith, (usable-counts file p pre.0).constraints))
+          (s (get_or P.constraints j (always 0)) (pre.2.at j less)) walked
 
   -- ---- step j
 

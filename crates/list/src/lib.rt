@@ -1,6 +1,4 @@
-// The constraints as a list of records: thin functions take a lent slice of them and call covered steps. The borrow checker's part covers no function that
-// holds a reference to structs, so `lent_step`, `own_step`, `lent_steps` and `own_steps` are proved by walks of their MIR; what they do stands in covered
-// functions.
+// The constraints as a list of records, in an array that is lent as a slice: the step of one of them, and the steps of all.
 //
 // Assumes nothing. `requires` asks what refusals 1 to 10 leave, and that the list is the file's.
 
@@ -22,7 +20,7 @@ ghost use Rattle.list.specs.Listed.{meaning, OfFile, Listed};
 
 // A record of the file: its kind, then its arguments, unused ones 0.
 #[repr(C)]
-#[derive(Drop)]
+#[derive(Clone, Copy)]
 pub struct Constraint {
     pub kind: u8,
     pub x: u8,

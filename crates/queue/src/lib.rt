@@ -17,7 +17,7 @@ ghost use Rattle.striking.specs.Strikes.{TrimmedIn};
 ghost use Rattle.queue.specs.Ring.{Filled, Appended, Without, Places, Joins, Ring, Full, Advanced, Turned};
 
 // Steps as the bits of two words: bit j of the two together for step j.
-#[derive(Drop)]
+#[derive(Clone, Copy)]
 struct Pair {
     low: u64,
     high: u64,
@@ -25,7 +25,7 @@ struct Pair {
 
 // How many steps were run, which is where the front stands in the ring; where the back does; which steps wait, bit j of the two words together for step j; and
 // which strings are known to be trimmed.
-#[derive(Drop)]
+#[derive(Clone, Copy)]
 struct Queue {
     head: usize,
     tail: usize,

@@ -16,7 +16,7 @@ ghost use Rattle.search.specs.Visits.{words_in, root, Standing, StandsIn, left_i
 ghost use Rattle.search.specs.Outcomes.{outcome_of};
 
 // How a search ends, with the nodes that it visited.
-#[derive(Drop)]
+#[derive(Clone, Copy)]
 pub enum Outcome {
     Found(u32),
     None(u32),
@@ -25,7 +25,7 @@ pub enum Outcome {
 
 // Where a search stands. The current table is a child at word `from` of a settled table, or any table where there is no such word; before `depth` there is
 // nothing to branch on, and from there on nothing waits; the kept table was branched at word `kept`.
-#[derive(Drop)]
+#[derive(Clone, Copy)]
 struct Path {
     from: usize,
     depth: usize,
@@ -33,7 +33,7 @@ struct Path {
 }
 
 // What visiting one node says: it is solved, or it is dead and none waits, or the next one is ready.
-#[derive(Drop)]
+#[derive(Clone, Copy)]
 enum Visited {
     Solved,
     Over,

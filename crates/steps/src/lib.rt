@@ -78,7 +78,7 @@ pub fn narrow(
 }
 
 // What a constraint names: its strings, and the word of its number, if it has one.
-#[derive(Drop)]
+#[derive(Clone, Copy)]
 pub struct Names {
     pub strings: [usize; 3],
     pub count: usize,

@@ -6,7 +6,6 @@ use mathlib.Core.List.Memᴰ
 use mathlib.Core.List.{List, map}
 use Prim.Native.Nat.{ℕ, zero, suc, ◌+◌, ◌*◌, ◌<◌}
 use native.Mathlib.Omega.{arith}
-use lib.ListN.{length}
 use Rattle.model.specs.Words.{word}
 use Rattle.model.specs.Domains.{Variable, str}
 use Rattle.model.specs.Constraints.{Problem, Constraint, always, variables}

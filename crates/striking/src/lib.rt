@@ -17,7 +17,7 @@ ghost use Rattle.striking.specs.Strikes.{Strikes, TrimmedIn};
 ghost use Rattle.striking.specs.Named.{Trimming, TrimmedOf, Lengths, firsts, Holds};
 
 // Whether a step struck anything, and the strings that are known to be trimmed after it, bit x for string x.
-#[derive(Drop)]
+#[derive(Clone, Copy)]
 pub struct Struck {
     pub changed: bool,
     pub trimmed: u64,

@@ -16,7 +16,7 @@ ghost use Rattle.waiting.specs.Beginnings.{Trims, Readies, Wakes, Lengths};
 ghost use Rattle.waiting.specs.Turns.{Inside, TidyRows, Turned, Ends};
 
 // What a constraint's step leads to: it struck nothing; it struck, and these wait; or it left a variable without a value.
-#[derive(Drop)]
+#[derive(Clone, Copy)]
 enum Turn {
     Quiet,
     Woken(u64),
