@@ -17,7 +17,7 @@ ghost use Rattle.cobleskeg.specs.Answers.{lent_number, read_reply, unpack_reply,
 ghost use Rattle.cobleskeg.specs.Claims.{call_of, call_by_index, SettlesAlike, SearchHolds, ListHolds, IndexesRefused, CompileHolds};
 
 // The counts of symbols, strings, numbers, automata and constraints.
-#[derive(Drop)]
+#[derive(Clone, Copy)]
 pub struct Header {
     pub symbols: usize,
     pub strings: usize,
@@ -27,63 +27,63 @@ pub struct Header {
 }
 
 // What Read answers: the paper's number of the refusal, or the counts.
-#[derive(Drop)]
+#[derive(Clone, Copy)]
 pub enum ReadAnswer {
     Refused(u8),
     Counts(Header),
 }
 
 // What Unpack answers.
-#[derive(Drop)]
+#[derive(Clone, Copy)]
 pub enum UnpackAnswer {
     Refused(u8),
     Unpacked,
 }
 
 // What Step answers: how many bits it struck.
-#[derive(Drop)]
+#[derive(Clone, Copy)]
 pub enum StepAnswer {
     Refused(u8),
     Struck(u32),
 }
 
 // How many rounds there were, the last included, and whether every variable has a value after them.
-#[derive(Drop)]
+#[derive(Clone, Copy)]
 pub struct Rounds {
     pub count: u32,
     pub every_value: bool,
 }
 
 // What Settle answers.
-#[derive(Drop)]
+#[derive(Clone, Copy)]
 pub enum SettleAnswer {
     Refused(u8),
     Settled(Rounds),
 }
 
 // What Index answers.
-#[derive(Drop)]
+#[derive(Clone, Copy)]
 pub enum IndexAnswer {
     Refused(u8),
     Indexed,
 }
 
 // How many steps were run, and whether every variable has a value after them.
-#[derive(Drop)]
+#[derive(Clone, Copy)]
 pub struct Steps {
     pub count: u32,
     pub every_value: bool,
 }
 
 // What Settle by index answers.
-#[derive(Drop)]
+#[derive(Clone, Copy)]
 pub enum SettleByIndexAnswer {
     Refused(u8),
     Settled(Steps),
 }
 
 // What Search answers, with the count of the nodes that it visited.
-#[derive(Drop)]
+#[derive(Clone, Copy)]
 pub enum SearchAnswer {
     Refused(u8),
     Found(u32),
@@ -311,7 +311,7 @@ pub fn perform_by_index(file: &[u8], list: &[u32], index: &[u64], table: &mut [u
 }
 
 // What Compile answers: how many bytes it wrote.
-#[derive(Drop)]
+#[derive(Clone, Copy)]
 pub enum CompileAnswer {
     Refused(u8),
     Written(usize),

@@ -43,6 +43,7 @@ value-pow v h = trailing_pow 64 v h
 
 -- a list of at most one element that has this one
 only_member : {A : Type 0} (xs : List A) (x : A) → length xs < 2 → In x xs → xs ≡ x ∷ []
+only_member {A = A} [] x h m = elim m [ ]
 only_member (y ∷ []) x h (Memᴰ.head e) = ap (λ z. z ∷ []) (sym e)
 only_member (y ∷ []) x h (Memᴰ.tail m) = elim m [ ]
 only_member (y ∷ z ∷ xs) x h m = absurd (omega arith)

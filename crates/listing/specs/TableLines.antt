@@ -1,5 +1,5 @@
 -- The lines of a table in which every domain has one value, by its words. Assumes nothing.
-use Rattle.std.specs.Prelude.{◌≡◌, ℕ, ◌+◌, ◌-◌, ◌*◌, ◌≤◌, ◌<◌, length, get_or, take, drop, replicate}
+use Rattle.std.specs.Prelude.{◌≡◌, ℕ, ◌*◌, ◌≤◌, ◌<◌, length, get_or, take, drop, replicate}
 use mathlib.Core.List.{List, ◌++◌, map, flat_map}
 use Rattle.std.specs.Int.Count.{count_trailing_zeros}
 use Rattle.model.specs.Lists.{upto}

@@ -1,0 +1,15 @@
+use Prim.Native.Nat.{◌-◌, ◌≤◌}
+use mathlib.Core.List.{flat_map}
+use lib.ListN.{take}
+use Rattle.model.specs.Lists.{upto}
+use Rattle.model.specs.Domains.{row}
+use Rattle.model.specs.Listing.{string_line}
+use Rattle.listing.specs.Writing.{Wrote}
+use Rattle.listing.specs.TableLines.{text_of}
+use Rattle.listing.proofs.string_lines.Given as goal
+
+abbrev pub invariant-loop-x : goal.invariant-loop-x
+invariant-loop-x l = (l.x ≤ l.s) × Wrote l.initial.lines l.at (flat_map (λ y. string_line y (text_of (row l.table y))) (take l.x (upto l.s))) l.lines l.end
+
+abbrev pub decreases-loop-x : goal.decreases-loop-x
+decreases-loop-x l = l.s - l.x
