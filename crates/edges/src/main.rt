@@ -15,12 +15,10 @@
 #![tactic(auto)]
 
 ghost use Rattle.std.specs.Prelude.{◌+◌, ◌*◌, ◌<◌, ◌≤◌, length};
-ghost use Rattle.io.specs.Counts.{IsPrefixLen};
-
-use libc::{STDIN_FILENO, STDOUT_FILENO};
+ghost use Rattle.std.specs.Counts.{IsPrefixLen};
 
 // The numbers of a case.
-#[derive(Drop)]
+#[derive(Clone, Copy)]
 struct Case {
     operation: usize,
     lent: usize,
@@ -32,18 +30,18 @@ struct Case {
     size: usize,
 }
 
-fn print(text: &[u8]) {
-    io::write_all(STDOUT_FILENO, text);
+fn print(rt: &impl Print, text: &[u8]) {
+    streams::write_all(rt, text);
 }
 
-fn print_number(n: u64) {
-    print(b" ");
-    io::print_decimal(STDOUT_FILENO, n);
+fn print_number(rt: &impl Print, n: u64) {
+    print(rt, b" ");
+    streams::print_decimal(rt, n);
 }
 
-fn print_refused(n: u8) {
-    print(b" refused");
-    print_number(n as u64);
+fn print_refused(rt: &impl Print, n: u8) {
+    print(rt, b" refused");
+    print_number(rt, n as u64);
 }
 
 // The end of the run of equal words that begins here.
@@ -62,136 +60,136 @@ fn run_end(words: &[u64], from: usize) -> usize
 }
 
 // Every word, a run of n equal ones as one word, `x` and n.
-fn print_words(words: &[u64]) {
+fn print_words(rt: &impl Print, words: &[u64]) {
     let mut i: usize = 0;
     while i < words.len() {
         let end = run_end(words, i);
-        print_number(words[i]);
+        print_number(rt, words[i]);
         if end - i > 1 {
-            print(b"x");
-            io::print_decimal(STDOUT_FILENO, (end - i) as u64);
+            print(rt, b"x");
+            streams::print_decimal(rt, (end - i) as u64);
         }
         i = end;
     }
 }
 
 // The end of a line: what the call left in the table.
-fn print_left(table: &[u64]) {
-    print(b" left");
-    print_words(table);
-    print(b"\n");
+fn print_left(rt: &impl Print, table: &[u64]) {
+    print(rt, b" left");
+    print_words(rt, table);
+    print(rt, b"\n");
 }
 
 fn sum(table: &[u64]) -> u64 {
     let mut total: u64 = 0;
     let mut i: usize = 0;
     while i < table.len() {
-        total = std::num::wrapping_add_u64(total, table[i]);
+        total = total.wrapping_add(table[i]);
         i += 1;
     }
     total
 }
 
-fn print_read(file: &[u8]) {
-    print(b"read");
+fn print_read(rt: &impl Print, file: &[u8]) {
+    print(rt, b"read");
     match cobleskeg::read(file) {
-        cobleskeg::ReadAnswer::Refused(n) => print_refused(n),
+        cobleskeg::ReadAnswer::Refused(n) => print_refused(rt, n),
         cobleskeg::ReadAnswer::Counts(h) => {
-            print_number(h.symbols as u64);
-            print_number(h.strings as u64);
-            print_number(h.numbers as u64);
-            print_number(h.automata as u64);
-            print_number(h.constraints as u64);
+            print_number(rt, h.symbols as u64);
+            print_number(rt, h.strings as u64);
+            print_number(rt, h.numbers as u64);
+            print_number(rt, h.automata as u64);
+            print_number(rt, h.constraints as u64);
         }
     }
 }
 
-fn print_unpack(file: &[u8], table: &mut [u64]) {
-    print(b" unpack");
+fn print_unpack(rt: &impl Print, file: &[u8], table: &mut [u64]) {
+    print(rt, b" unpack");
     match cobleskeg::unpack(file, table) {
-        cobleskeg::UnpackAnswer::Refused(n) => print_refused(n),
-        cobleskeg::UnpackAnswer::Unpacked => print(b" done"),
+        cobleskeg::UnpackAnswer::Refused(n) => print_refused(rt, n),
+        cobleskeg::UnpackAnswer::Unpacked => print(rt, b" done"),
     }
-    print(b" left");
-    print_number(sum(table));
-    print(b"\n");
+    print(rt, b" left");
+    print_number(rt, sum(table));
+    print(rt, b"\n");
 }
 
-fn print_step(file: &[u8], j: usize, table: &mut [u64]) {
-    print(b"step");
+fn print_step(rt: &impl Print, file: &[u8], j: usize, table: &mut [u64]) {
+    print(rt, b"step");
     match cobleskeg::step(file, j, table) {
-        cobleskeg::StepAnswer::Refused(n) => print_refused(n),
+        cobleskeg::StepAnswer::Refused(n) => print_refused(rt, n),
         cobleskeg::StepAnswer::Struck(n) => {
-            print(b" struck");
-            print_number(n as u64);
+            print(rt, b" struck");
+            print_number(rt, n as u64);
         }
     }
-    print_left(table);
+    print_left(rt, table);
 }
 
-fn print_flag(every_value: bool) {
+fn print_flag(rt: &impl Print, every_value: bool) {
     if every_value {
-        print(b" true");
+        print(rt, b" true");
     } else {
-        print(b" false");
+        print(rt, b" false");
     }
 }
 
-fn print_settle(file: &[u8], table: &mut [u64]) {
-    print(b"settle");
+fn print_settle(rt: &impl Print, file: &[u8], table: &mut [u64]) {
+    print(rt, b"settle");
     match cobleskeg::settle(file, table) {
-        cobleskeg::SettleAnswer::Refused(n) => print_refused(n),
+        cobleskeg::SettleAnswer::Refused(n) => print_refused(rt, n),
         cobleskeg::SettleAnswer::Settled(r) => {
-            print(b" rounds");
-            print_number(r.count as u64);
-            print_flag(r.every_value);
+            print(rt, b" rounds");
+            print_number(rt, r.count as u64);
+            print_flag(rt, r.every_value);
         }
     }
-    print_left(table);
+    print_left(rt, table);
 }
 
-fn print_index(file: &[u8], index: &mut [u64]) {
-    print(b"index");
+fn print_index(rt: &impl Print, file: &[u8], index: &mut [u64]) {
+    print(rt, b"index");
     match cobleskeg::index(file, index) {
-        cobleskeg::IndexAnswer::Refused(n) => print_refused(n),
-        cobleskeg::IndexAnswer::Indexed => print(b" done"),
+        cobleskeg::IndexAnswer::Refused(n) => print_refused(rt, n),
+        cobleskeg::IndexAnswer::Indexed => print(rt, b" done"),
     }
-    print_left(index);
+    print_left(rt, index);
 }
 
-fn print_settle_by_index(file: &[u8], index: &[u64], table: &mut [u64]) {
-    print(b"settle by index");
+fn print_settle_by_index(rt: &impl Print, file: &[u8], index: &[u64], table: &mut [u64]) {
+    print(rt, b"settle by index");
     match cobleskeg::settle_by_index(file, index, table) {
-        cobleskeg::SettleByIndexAnswer::Refused(n) => print_refused(n),
+        cobleskeg::SettleByIndexAnswer::Refused(n) => print_refused(rt, n),
         cobleskeg::SettleByIndexAnswer::Settled(r) => {
-            print(b" steps");
-            print_number(r.count as u64);
-            print_flag(r.every_value);
+            print(rt, b" steps");
+            print_number(rt, r.count as u64);
+            print_flag(rt, r.every_value);
         }
     }
-    print_left(table);
+    print_left(rt, table);
 }
 
-fn print_search(file: &[u8], budget: u32, room: &mut [u64], table: &mut [u64]) {
-    print(b"search");
+fn print_search(rt: &impl Print, file: &[u8], budget: u32, room: &mut [u64], table: &mut [u64]) {
+    print(rt, b"search");
     match cobleskeg::search(file, budget, room, table) {
-        cobleskeg::SearchAnswer::Refused(n) => print_refused(n),
+        cobleskeg::SearchAnswer::Refused(n) => print_refused(rt, n),
         cobleskeg::SearchAnswer::Found(n) => {
-            print(b" found");
-            print_number(n as u64);
+            print(rt, b" found");
+            print_number(rt, n as u64);
         }
         cobleskeg::SearchAnswer::None(n) => {
-            print(b" none");
-            print_number(n as u64);
+            print(rt, b" none");
+            print_number(rt, n as u64);
         }
         cobleskeg::SearchAnswer::Spent(n) => {
-            print(b" spent");
-            print_number(n as u64);
+            print(rt, b" spent");
+            print_number(rt, n as u64);
         }
     }
-    print(b" room");
-    print_words(room);
-    print_left(table);
+    print(rt, b" room");
+    print_words(rt, room);
+    print_left(rt, table);
 }
 
 // Puts the calls at the start of the list, and answers how many it took.
@@ -209,20 +207,26 @@ fn take_calls(bytes: &[u8], list: &mut [u32]) -> usize
     i
 }
 
-fn print_perform(file: &[u8], calls: &[u8], table: &mut [u64]) {
+fn print_perform(rt: &impl Print, file: &[u8], calls: &[u8], table: &mut [u64]) {
     let mut list = [0u32; 8];
     let n = take_calls(calls, &mut list);
     cobleskeg::perform(file, &list[..n], table);
-    print(b"perform");
-    print_left(table);
+    print(rt, b"perform");
+    print_left(rt, table);
 }
 
-fn print_perform_by_index(file: &[u8], calls: &[u8], index: &[u64], table: &mut [u64]) {
+fn print_perform_by_index(
+    rt: &impl Print,
+    file: &[u8],
+    calls: &[u8],
+    index: &[u64],
+    table: &mut [u64],
+) {
     let mut list = [0u32; 8];
     let n = take_calls(calls, &mut list);
     cobleskeg::perform_by_index(file, &list[..n], index, table);
-    print(b"perform by index");
-    print_left(table);
+    print(rt, b"perform by index");
+    print_left(rt, table);
 }
 
 // A byte of each word, as far as there are bytes; answers how many.
@@ -253,28 +257,29 @@ fn to_words(bytes: &[u8], words: &mut [u64]) {
 }
 
 // The words get the bytes that the call leaves.
-fn compile(text: &[u8], k: usize, buffer: &mut [u8], words: &mut [u64]) {
-    print(b"compile");
+fn compile(rt: &impl Print, text: &[u8], k: usize, buffer: &mut [u8], words: &mut [u64]) {
+    print(rt, b"compile");
     match cobleskeg::compile(text, k, buffer) {
-        cobleskeg::CompileAnswer::Refused(n) => print_refused(n),
+        cobleskeg::CompileAnswer::Refused(n) => print_refused(rt, n),
         cobleskeg::CompileAnswer::Written(n) => {
-            print(b" written");
-            print_number(n as u64);
+            print(rt, b" written");
+            print_number(rt, n as u64);
         }
     }
     to_words(buffer, words);
-    print_left(words);
+    print_left(rt, words);
 }
 
 // The words stand for the bytes of the lent buffer.
-fn print_compile(text: &[u8], k: usize, words: &mut [u64]) {
+fn print_compile(rt: &impl Print, text: &[u8], k: usize, words: &mut [u64]) {
     let mut buffer = [0u8; 4096];
     let n = to_bytes(words, &mut buffer);
-    compile(text, k, &mut buffer[..n], words);
+    compile(rt, text, k, &mut buffer[..n], words);
 }
 
 // One line for a case.
 fn report(
+    rt: &impl Print,
     operation: usize,
     argument: u32,
     calls: &[u8],
@@ -284,17 +289,17 @@ fn report(
 ) {
     match operation {
         0 => {
-            print_read(file);
-            print_unpack(file, table);
+            print_read(rt, file);
+            print_unpack(rt, file, table);
         }
-        1 => print_step(file, argument as usize, table),
-        2 => print_settle(file, table),
-        3 => print_search(file, argument, room, table),
-        4 => print_perform(file, calls, table),
-        5 => print_compile(file, argument as usize, room),
-        6 => print_index(file, room),
-        7 => print_settle_by_index(file, room, table),
-        _ => print_perform_by_index(file, calls, room, table),
+        1 => print_step(rt, file, argument as usize, table),
+        2 => print_settle(rt, file, table),
+        3 => print_search(rt, file, argument, room, table),
+        4 => print_perform(rt, file, calls, table),
+        5 => print_compile(rt, file, argument as usize, room),
+        6 => print_index(rt, file, room),
+        7 => print_settle_by_index(rt, file, room, table),
+        _ => print_perform_by_index(rt, file, calls, room, table),
     }
 }
 
@@ -319,12 +324,13 @@ fn change(words: &mut [u64], first: usize, changes: &[u8]) {
 }
 
 // Lends the first words of the room and of the table.
-fn lend(c: Case, calls: &[u8], file: &[u8], room: &mut [u64], table: &mut [u64])
+fn lend(rt: &impl Print, c: Case, calls: &[u8], file: &[u8], room: &mut [u64], table: &mut [u64])
     requires { (c.room ≤ length room.old) × (c.lent ≤ length table.old) }
 {
     let words = c.room;
     let lent = c.lent;
     report(
+        rt,
         c.operation,
         c.argument,
         calls,
@@ -335,7 +341,7 @@ fn lend(c: Case, calls: &[u8], file: &[u8], room: &mut [u64], table: &mut [u64])
 }
 
 // Nothing is printed where more words are asked for than there are.
-fn run(c: Case, changes: &[u8], calls: &[u8], file: &[u8]) {
+fn run(rt: &impl Print, c: Case, changes: &[u8], calls: &[u8], file: &[u8]) {
     let fill = c.fill;
     let mut table = [fill; 2048];
     let mut room = [fill; 4096];
@@ -343,7 +349,7 @@ fn run(c: Case, changes: &[u8], calls: &[u8], file: &[u8]) {
     change(&mut room, 2048, changes);
     if c.lent <= 2048 {
         if c.room <= 4096 {
-            lend(c, calls, file, &mut room, &mut table);
+            lend(rt, c, calls, file, &mut room, &mut table);
         }
     }
 }
@@ -364,7 +370,7 @@ fn case_at(input: &[u8], at: usize) -> Case
     }
 }
 
-fn run_all(input: &[u8]) {
+fn run_all(rt: &impl Print, input: &[u8]) {
     let mut at: usize = 0;
     while at + 18 <= input.len() {
         let c = case_at(input, at);
@@ -376,6 +382,7 @@ fn run_all(input: &[u8]) {
             return;
         }
         run(
+            rt,
             c,
             &input[changes..calls],
             &input[calls..file],
@@ -385,8 +392,8 @@ fn run_all(input: &[u8]) {
     }
 }
 
-fn main() {
-    let mut input = [0u8; 524288];
-    let n = io::read_full(STDIN_FILENO, &mut input);
-    run_all(&input[..n]);
+fn main(rt: HostRuntime) {
+    let mut input: [u8; 524288] = streams::zeros();
+    let n = streams::read_full(&rt, &mut input);
+    run_all(&rt, &input[..n]);
 }

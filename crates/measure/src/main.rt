@@ -10,8 +10,6 @@ ghost use Rattle.std.specs.Prelude.{◌≡◌, ◌+◌, ◌*◌, ◌≤◌, true
 ghost use Rattle.automata.specs.Machine.{Whole};
 ghost use Rattle.measure.specs.TidyRows.{TidyRows};
 
-use libc::{STDIN_FILENO, STDOUT_FILENO};
-
 // Gives string x the lengths of the word, and the symbols 0 to 2 at the first 8 places.
 fn typical_row(t: &mut [u64], x: usize, lengths: u64)
     requires { 64 * x + 64 ≤ length t.old }
@@ -119,7 +117,7 @@ fn bits(t: [u64; 193]) -> u64 {
     let mut n: u64 = 0;
     let mut i: usize = 0;
     while i < 193 {
-        n = std::num::wrapping_add_u64(n, words::count(t[i]) as u64);
+        n = n.wrapping_add(words::count(t[i]) as u64);
         i += 1;
     }
     n
@@ -135,22 +133,22 @@ fn left(kind: u8, domains: u8, times: u8) -> u64 {
 }
 
 // One line: the kind, the domains, and the bits that are left.
-fn report(kind: u8, domains: u8, times: u8) {
-    io::print_decimal(STDOUT_FILENO, kind as u64);
-    io::write_all(STDOUT_FILENO, b" ");
-    io::print_decimal(STDOUT_FILENO, domains as u64);
-    io::write_all(STDOUT_FILENO, b" ");
-    io::print_decimal(STDOUT_FILENO, left(kind, domains, times));
-    io::write_all(STDOUT_FILENO, b"\n");
+fn report(rt: &impl Print, kind: u8, domains: u8, times: u8) {
+    streams::print_decimal(rt, kind as u64);
+    streams::write_all(rt, b" ");
+    streams::print_decimal(rt, domains as u64);
+    streams::write_all(rt, b" ");
+    streams::print_decimal(rt, left(kind, domains, times));
+    streams::write_all(rt, b"\n");
 }
 
 // A line for each group of three bytes.
-fn main() {
+fn main(rt: HostRuntime) {
     let mut input = [0u8; 300];
-    let n = io::read_full(STDIN_FILENO, &mut input);
+    let n = streams::read_full(&rt, &mut input);
     let mut at: usize = 0;
     while at + 3 <= n {
-        report(input[at], input[at + 1], input[at + 2]);
+        report(&rt, input[at], input[at + 1], input[at + 2]);
         at += 3;
     }
 }

@@ -7,60 +7,65 @@
 
 ghost use Rattle.std.specs.Prelude.{◌≤◌, length};
 
-use libc::{STDIN_FILENO, STDOUT_FILENO};
-
-fn print_line(outcome: &[u8], n: u64) {
-    io::write_all(STDOUT_FILENO, outcome);
-    io::print_decimal(STDOUT_FILENO, n);
-    io::write_all(STDOUT_FILENO, b"\n");
+fn print_line(rt: &impl Print, outcome: &[u8], n: u64) {
+    streams::write_all(rt, outcome);
+    streams::print_decimal(rt, n);
+    streams::write_all(rt, b"\n");
 }
 
 // The outcome, and the nodes that were visited or the refusal's number.
-fn print_answer(answer: cobleskeg::SearchAnswer) {
+fn print_answer(rt: &impl Print, answer: cobleskeg::SearchAnswer) {
     match answer {
-        cobleskeg::SearchAnswer::Refused(n) => print_line(b"refused ", n as u64),
-        cobleskeg::SearchAnswer::Found(n) => print_line(b"found ", n as u64),
-        cobleskeg::SearchAnswer::None(n) => print_line(b"none ", n as u64),
-        cobleskeg::SearchAnswer::Spent(n) => print_line(b"spent ", n as u64),
+        cobleskeg::SearchAnswer::Refused(n) => print_line(rt, b"refused ", n as u64),
+        cobleskeg::SearchAnswer::Found(n) => print_line(rt, b"found ", n as u64),
+        cobleskeg::SearchAnswer::None(n) => print_line(rt, b"none ", n as u64),
+        cobleskeg::SearchAnswer::Spent(n) => print_line(rt, b"spent ", n as u64),
     }
 }
 
 // Searches so many times, and once more for the line; room for the largest problem.
-fn run(file: &[u8], times: u32, budget: u32, table: &mut [u64]) {
+fn run(rt: &impl Print, file: &[u8], times: u32, budget: u32, table: &mut [u64]) {
     let mut room = [0u64; 3120];
     let mut i: u32 = 0;
     while i < times {
         cobleskeg::search(file, budget, &mut room, table);
         i += 1;
     }
-    print_answer(cobleskeg::search(file, budget, &mut room, table));
+    print_answer(rt, cobleskeg::search(file, budget, &mut room, table));
 }
 
 // Lends the first words of a table.
-fn lend(file: &[u8], times: u32, budget: u32, table: &mut [u64], words: usize)
+fn lend(rt: &impl Print, file: &[u8], times: u32, budget: u32, table: &mut [u64], words: usize)
     requires { words ≤ length table.old }
 {
-    run(file, times, budget, &mut table[..words]);
+    run(rt, file, times, budget, &mut table[..words]);
 }
 
 // The answer table is as long as the file's.
-fn report(file: &[u8], times: u32, budget: u32) {
+fn report(rt: &impl Print, file: &[u8], times: u32, budget: u32) {
     let mut table = [0u64; 1040];
     match cobleskeg::read(file) {
-        cobleskeg::ReadAnswer::Refused(n) => print_line(b"refused ", n as u64),
+        cobleskeg::ReadAnswer::Refused(n) => print_line(rt, b"refused ", n as u64),
         cobleskeg::ReadAnswer::Counts(h) => {
             if h.strings <= 16 {
                 if h.numbers <= 16 {
-                    lend(file, times, budget, &mut table, 64 * h.strings + h.numbers);
+                    lend(
+                        rt,
+                        file,
+                        times,
+                        budget,
+                        &mut table,
+                        64 * h.strings + h.numbers,
+                    );
                 }
             }
         }
     }
 }
 
-fn main() {
-    let mut input = [0u8; 131072];
-    let n = io::read_full(STDIN_FILENO, &mut input);
+fn main(rt: HostRuntime) {
+    let mut input: [u8; 131072] = streams::zeros();
+    let n = streams::read_full(&rt, &mut input);
     let mut at: usize = 0;
     while at + 10 <= n {
         let size = little::two(&input, at) as usize;
@@ -70,7 +75,7 @@ fn main() {
         if size > n - at {
             return;
         }
-        report(&input[at..at + size], times, budget);
+        report(&rt, &input[at..at + size], times, budget);
         at += size;
     }
 }

@@ -12,10 +12,8 @@
 
 ghost use Rattle.std.specs.Prelude.{◌≤◌, length};
 
-use libc::{STDIN_FILENO, STDOUT_FILENO};
-
 // What a run answers.
-#[derive(Drop)]
+#[derive(Clone, Copy)]
 enum Answer {
     Refused(u8),
     Done,
@@ -23,35 +21,35 @@ enum Answer {
     Steps(cobleskeg::Steps),
 }
 
-fn print(text: &[u8]) {
-    io::write_all(STDOUT_FILENO, text);
+fn print(rt: &impl Print, text: &[u8]) {
+    streams::write_all(rt, text);
 }
 
-fn print_number(n: u64) {
-    print(b" ");
-    io::print_decimal(STDOUT_FILENO, n);
+fn print_number(rt: &impl Print, n: u64) {
+    print(rt, b" ");
+    streams::print_decimal(rt, n);
 }
 
-fn print_refused(n: u8) {
-    print(b"refused");
-    print_number(n as u64);
-    print(b"\n");
+fn print_refused(rt: &impl Print, n: u8) {
+    print(rt, b"refused");
+    print_number(rt, n as u64);
+    print(rt, b"\n");
 }
 
 // How many there were, and 1 where every variable has a value after them, else 0.
-fn print_settled(what: &[u8], count: u32, every_value: bool) {
-    print(what);
-    print_number(count as u64);
-    print_number(every_value as u64);
-    print(b"\n");
+fn print_settled(rt: &impl Print, what: &[u8], count: u32, every_value: bool) {
+    print(rt, what);
+    print_number(rt, count as u64);
+    print_number(rt, every_value as u64);
+    print(rt, b"\n");
 }
 
-fn print_answer(answer: Answer) {
+fn print_answer(rt: &impl Print, answer: Answer) {
     match answer {
-        Answer::Refused(n) => print_refused(n),
-        Answer::Done => print(b"done\n"),
-        Answer::Rounds(r) => print_settled(b"rounds", r.count, r.every_value),
-        Answer::Steps(r) => print_settled(b"steps", r.count, r.every_value),
+        Answer::Refused(n) => print_refused(rt, n),
+        Answer::Done => print(rt, b"done\n"),
+        Answer::Rounds(r) => print_settled(rt, b"rounds", r.count, r.every_value),
+        Answer::Steps(r) => print_settled(rt, b"steps", r.count, r.every_value),
     }
 }
 
@@ -96,18 +94,26 @@ fn once(file: &[u8], operation: usize, index: &mut [u64], table: &mut [u64]) -> 
 }
 
 // Runs so many times, and once more for the line.
-fn run(file: &[u8], operation: usize, times: u32, index: &mut [u64], table: &mut [u64]) {
+fn run(
+    rt: &impl Print,
+    file: &[u8],
+    operation: usize,
+    times: u32,
+    index: &mut [u64],
+    table: &mut [u64],
+) {
     cobleskeg::index(file, index);
     let mut i: u32 = 0;
     while i < times {
         once(file, operation, index, table);
         i += 1;
     }
-    print_answer(once(file, operation, index, table));
+    print_answer(rt, once(file, operation, index, table));
 }
 
 // Lends the first words of an index and of a table.
 fn lend(
+    rt: &impl Print,
     file: &[u8],
     operation: usize,
     times: u32,
@@ -119,6 +125,7 @@ fn lend(
     requires { (pairs ≤ length index.old) × (words ≤ length table.old) }
 {
     run(
+        rt,
         file,
         operation,
         times,
@@ -128,26 +135,28 @@ fn lend(
 }
 
 // Index and table are as long as the file's.
-fn report(file: &[u8], operation: usize, times: u32) {
+fn report(rt: &impl Print, file: &[u8], operation: usize, times: u32) {
     let mut index = [0u64; 64];
     let mut table = [0u64; 1040];
     match cobleskeg::read(file) {
-        cobleskeg::ReadAnswer::Refused(n) => print_refused(n),
+        cobleskeg::ReadAnswer::Refused(n) => print_refused(rt, n),
         cobleskeg::ReadAnswer::Counts(h) => {
             if h.strings <= 16 {
                 if h.numbers <= 16 {
                     let pairs = 2 * (h.strings + h.numbers);
                     let words = 64 * h.strings + h.numbers;
-                    lend(file, operation, times, &mut index, pairs, &mut table, words);
+                    lend(
+                        rt, file, operation, times, &mut index, pairs, &mut table, words,
+                    );
                 }
             }
         }
     }
 }
 
-fn main() {
-    let mut input = [0u8; 131072];
-    let n = io::read_full(STDIN_FILENO, &mut input);
+fn main(rt: HostRuntime) {
+    let mut input: [u8; 131072] = streams::zeros();
+    let n = streams::read_full(&rt, &mut input);
     let mut at: usize = 0;
     while at + 8 <= n {
         let size = little::two(&input, at) as usize;
@@ -157,7 +166,7 @@ fn main() {
         if size > n - at {
             return;
         }
-        report(&input[at..at + size], operation, times);
+        report(&rt, &input[at..at + size], operation, times);
         at += size;
     }
 }

@@ -1,5 +1,5 @@
--- The bytes are a whole automaton before the loop, by a test of all its moves that is computed once, and stay one when a move is put anew. Assumes nothing.
-use Rattle.std.proofs.Common.{◌≡◌, ℕ, zero, suc, ◌+◌, ◌-◌, ◌*◌, ◌<◌, ◌≤◌, true, List, [], ◌∷◌, length, get_or, take, drop, set, replicate, sym, refl, ap, ◌∙◌, subst, ap₂, arith, length-set, get_or-drop, get_or-set_other, rules}
+-- The bytes of `parity` are a whole automaton before the loop, by a test of all its moves that is computed once, and stay one when a move is put anew. Assumes nothing.
+use Rattle.std.proofs.Common.{◌≡◌, ℕ, zero, suc, ◌+◌, ◌-◌, ◌*◌, ◌<◌, ◌≤◌, true, List, [], ◌∷◌, length, get_or, take, drop, set, replicate, sym, refl, ap, ◌∙◌, subst, ap₂, arith, length-set, get_or-drop, get_or-set_other}
 use lib.Seq.{take-set-le, drop-set-add}
 use Rattle.model.specs.Lists.{select, all, from, upto}
 use Rattle.model.specs.Words.{bit, bits, none_from}
@@ -8,17 +8,15 @@ use Rattle.model.specs.Reading.{known}
 use Rattle.laws.proofs.ListLaws.{of-all, get_or_in}
 use Rattle.automata.specs.Machine.{Whole, state_count}
 use Rattle.automata.proofs.MachineLaws.{state-known}
-use Rattle.measure.proofs.parity.Statement.{statement}
-use Rattle.measure.proofs.parity.Tie as tie
 
 -- ---- a move put anew
 
-getD-set-known : (l : List ℕ) (i j v q : ℕ) → known q v ≡ true → known q (get_or l j 0) ≡ true → known q (get_or (set l i v) j 0) ≡ true
-getD-set-known [] i j v q h k = k
-getD-set-known (x ∷ xs) zero zero v q h k = h
-getD-set-known (x ∷ xs) zero (suc j) v q h k = k
-getD-set-known (x ∷ xs) (suc i) zero v q h k = k
-getD-set-known (x ∷ xs) (suc i) (suc j) v q h k = getD-set-known xs i j v q h k
+get_or-set-known : (l : List ℕ) (i j v q : ℕ) → known q v ≡ true → known q (get_or l j 0) ≡ true → known q (get_or (set l i v) j 0) ≡ true
+get_or-set-known [] i j v q h k = k
+get_or-set-known (x ∷ xs) zero zero v q h k = h
+get_or-set-known (x ∷ xs) zero (suc j) v q h k = k
+get_or-set-known (x ∷ xs) (suc i) zero v q h k = k
+get_or-set-known (x ∷ xs) (suc i) (suc j) v q h k = get_or-set-known xs i j v q h k
 
 module _ (k : ℕ) (bs : List ℕ) (i v : ℕ) (behind : 4 ≤ i) where
   count_set : state_count (set bs (1 + i) v) ≡ state_count bs
@@ -35,12 +33,12 @@ module _ (k : ℕ) (bs : List ℕ) (i v : ℕ) (behind : 4 ≤ i) where
     accepting-known = ap₂ (λ (q : ℕ) (l : List ℕ). none_from q (little l)) count_set accepting-set ∙ w.accepting-known;
     moves-known = λ j l.
         subst (λ (q : ℕ). known q (get_or (set bs (1 + i) v) (5 + j) 0) ≡ true) (sym count_set)
-        (getD-set-known bs (1 + i) (5 + j) v (state_count bs) (state-known (state_count bs) v h) (w.moves-known j (subst (λ (q : ℕ). j < q * k) count_set l)));
+        (get_or-set-known bs (1 + i) (5 + j) v (state_count bs) (state-known (state_count bs) v h) (w.moves-known j (subst (λ (q : ℕ). j < q * k) count_set l)));
   }
 
 -- ---- before the loop
 
-moves : List ℕ
+unfoldable pub moves : List ℕ
 moves = 1 ∷ replicate 127 0
 
 moves-low : all (known 2) moves ≡ true
@@ -51,7 +49,7 @@ moves-length : length moves ≡ 128
 unfolding moves
 moves-length = refl
 
-bytes : List ℕ
+unfoldable pub bytes : List ℕ
 bytes = 2 ∷ 1 ∷ 0 ∷ 0 ∷ 0 ∷ moves
 
 state-low : none_from 2 (little (part 1 4 bytes)) ≡ true
@@ -71,15 +69,15 @@ bytes_whole = record {
 }
 
 -- two states, and a whole automaton over 64 symbols
-record Made (bs : List ℕ) : Type 0 where
-  two : state_count bs ≡ 2
-  whole : Whole 64 bs
+pub record Made (bs : List ℕ) : Type 0 where
+  pub two : state_count bs ≡ 2
+  pub whole : Whole 64 bs
 
-bytes-made : Made bytes
+pub bytes-made : Made bytes
 unfolding bytes
 bytes-made = record { two = refl; whole = bytes_whole }
 
-move-made : (bs : List ℕ) (i : ℕ) → Made bs → Made (set bs (i + 70) 1)
+pub move-made : (bs : List ℕ) (i : ℕ) → Made bs → Made (set bs (i + 70) 1)
 move-made bs i m =
     let e : 1 + (i + 69) ≡ i + 70 = omega arith in
     subst (λ (j : ℕ). Made (set bs j 1)) e
@@ -87,28 +85,3 @@ move-made bs i m =
       two = count_set 64 bs (i + 69) 1 (omega arith) ∙ m.two;
       whole = let t = m.two in move-whole 64 bs (i + 69) 1 (omega arith) (omega arith) m.whole;
     })
-
--- ---- the function
-
-abbrev invariant-loop : tie.invariant-loop
-invariant-loop d₀ i₀ d i = (i ≤ 63) × Made d
-
-abbrev decreases-loop : tie.decreases-loop
-decreases-loop d₀ i₀ d i = 63 - i
-
-loop-holds : tie.Need-loop-init invariant-loop decreases-loop
-unfolding bytes moves
-loop-holds c = (search rules, bytes-made)
-
-loop-again : tie.Need-loop-preserved invariant-loop decreases-loop
-loop-again c = (search rules, move-made _ _ c.before.loop.invariant.1)
-
-returns : tie.Need-returns invariant-loop decreases-loop
-returns c = c.before.loop.invariant.1.whole
-
-pub parity-spec : {M : Type 1} → statement M
-parity-spec =
-    tie.close
-    (tie.spec
-    invariant-loop decreases-loop (λ c. search rules) (λ c. search rules) (λ c. search rules) loop-holds (λ c. search rules) (λ c. search rules) (λ c. search rules)
-    (λ c. search rules) loop-again returns)
