@@ -1,6 +1,6 @@
 # What a search takes in the library and in the second solver, one after the other in one run, on the problems of bench/problems.py. Run from the repository's
-# root after `rt staticlib cobleskeg_c`; it needs cargo. Both search through the same buffers and are built for release. Times are of one machine, and no
-# test depends on them.
+# root after `python3 tools/build.py cobleskeg_c`; it needs cargo. Both search through the same buffers and are built for release. Times are of one machine, and
+# no test depends on them.
 import subprocess
 import sys
 import tempfile

@@ -11,7 +11,7 @@ def program(crate):
     """The crate's program, or the one that the command line names, so that an older one can be measured too. Where it is not there the script ends."""
     path = Path(sys.argv[1]) if len(sys.argv) > 1 else ROOT / "target" / "bin" / crate
     if not path.is_file():
-        sys.exit(f"bench: {path} is not there: run `rt check {crate}` first")
+        sys.exit(f"bench: {path} is not there: run `python3 tools/build.py {crate}` first")
     return path
 
 
@@ -19,7 +19,7 @@ def archive():
     """The archive that programs link. Where it is not there the script ends."""
     path = ROOT / "target" / "staticlib" / "libcobleskeg_c.a"
     if not path.is_file():
-        sys.exit(f"bench: {path} is not there: run `rt staticlib cobleskeg_c` first")
+        sys.exit(f"bench: {path} is not there: run `python3 tools/build.py cobleskeg_c` first")
     return path
 
 

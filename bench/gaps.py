@@ -1,5 +1,5 @@
 # What rules cost that list their moves alone, beside the same rules with the sink written out: Settle and the search on files that differ in nothing else. Run
-# from the repository's root after `rt check settlings nodes`.
+# from the repository's root after `python3 tools/build.py settlings nodes`.
 #     python3 bench/gaps.py
 # Instructions are counted by valgrind's callgrind, as bench/settling.py and bench/search.py count them; answers, rounds and nodes are held to be the same.
 import sys

@@ -1,5 +1,5 @@
 # Sums up the memory that the archive takes beside the stack, by `size`: code and constants, which are only read, and what is written; then each section of
-# constants. Run from the repository's root after `rt staticlib cobleskeg_c`, or with another archive as argument.
+# constants. Run from the repository's root after `python3 tools/build.py cobleskeg_c`, or with another archive as argument.
 import re
 import subprocess
 import sys

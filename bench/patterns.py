@@ -1,4 +1,4 @@
-# Counts the instructions of compiling a pattern, by valgrind's callgrind. Run from the repository's root after `rt check rule`.
+# Counts the instructions of compiling a pattern, by valgrind's callgrind. Run from the repository's root after `python3 tools/build.py rule`.
 # The program compiles one text. What it costs on a text that is refused for its length alone, the program's start and end, is taken off.
 import sys
 

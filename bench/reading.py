@@ -1,5 +1,5 @@
-# Counts the instructions of reading the largest file, 25,024 bytes, by valgrind's callgrind. Run from the repository's root after `rt check edges`.
-# The program reads each file that it is given twice, by Read and by Unpack, which here refuses a lent table of no words only after the last byte. The
+# Counts the instructions of reading the largest file, 25,024 bytes, by valgrind's callgrind. Run from the repository's root after `python3 tools/build.py
+# edges`. The program reads each file that it is given twice, by Read and by Unpack, which here refuses a lent table of no words only after the last byte. The
 # difference between two files and one is the cost of one such pair, without the program's start and end.
 import sys
 

@@ -1,4 +1,4 @@
-# What a node of the search costs, on the problems of bench/problems.py. Run from the repository's root after `rt check nodes`.
+# What a node of the search costs, on the problems of bench/problems.py. Run from the repository's root after `python3 tools/build.py nodes`.
 #     python3 bench/search.py [PROGRAM]      measures target/bin/nodes, or another program of the crate `nodes`
 # Instructions are counted by valgrind's callgrind. A search with budget 0 reads the file, makes the room ready and clears it: the difference between a search
 # and one with budget 0 is the cost of its nodes, and that between two searches with budget 0 and one is the cost of reading; the program's start and end

@@ -1,5 +1,5 @@
 # What Settle and Settle by index cost, side by side, on the problems of bench/problems.py and on its larger template sets. Run from the repository's root after
-# `rt check settlings`.
+# `python3 tools/build.py settlings`.
 #     python3 bench/settling.py [PROGRAM]      measures target/bin/settlings, or another program of the crate `settlings`
 # Instructions are counted by valgrind's callgrind. The difference between a case that is run once more and one that is not is the cost of that run, without the
 # program's start and end. A run of a settle unpacks the file's table first, and what that takes alone is taken off; what is left is the call, with its own

@@ -1,6 +1,6 @@
 # Measures how deep the stack goes below a call, through the archive that programs link: of each entry that narrows on the problems of bench/problems.py, and of
 # Compile on the texts of bench/patterns.py.
-# Run from the repository's root after `rt staticlib cobleskeg_c`; needs a C compiler for x86-64. bench/stack.c makes the calls.
+# Run from the repository's root after `python3 tools/build.py cobleskeg_c`; needs a C compiler for x86-64. bench/stack.c makes the calls.
 import subprocess
 import sys
 

@@ -1,7 +1,7 @@
 # Counts the instructions of one narrowing step of each kind, on full and on typical domains, by valgrind's callgrind: repeatable on one machine.
-# Run from the repository's root after `rt check measure`. The program makes the rows of its table tidy, and then runs a step in place n times on what the last
-# step left; on these domains every step leaves a choice, so that it runs all n. The difference between two counts, less that of a step that does nothing, is the
-# cost of the steps alone.
+# Run from the repository's root after `python3 tools/build.py measure`. The program makes the rows of its table tidy, and then runs a step in place n times on
+# what the last step left; on these domains every step leaves a choice, so that it runs all n. The difference between two counts, less that of a step that does
+# nothing, is the cost of the steps alone.
 import sys
 
 import counted

@@ -1,5 +1,5 @@
 # Whether a node costs more the deeper it lies: the instructions a node along the path of `16 strings of 63 symbols`, which goes down a thousand levels with
-# hardly a turn, a hundred nodes after the other. Run from the repository's root after `rt check nodes`.
+# hardly a turn, a hundred nodes after the other. Run from the repository's root after `python3 tools/build.py nodes`.
 #     python3 bench/windows.py [PROGRAM]      measures target/bin/nodes, or another program of the crate `nodes`
 # A window is the difference between the counts of two searches whose budgets end before and after it.
 import sys

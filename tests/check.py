@@ -2,7 +2,7 @@
 # as files for other machines; stand-ins that end in every way a program can; warnings, the progress bar, and what cannot be read or written. Expected outputs
 # stand here by hand: where a clash is compared, its question has no other one, so that no order of a search matters. Whether verdicts are right is for
 # tests/brute.py to ask.
-#     python3 tests/check.py        after `rt check clash rule` and `rt staticlib cobleskeg_c`; it needs a C compiler
+#     python3 tests/check.py        after `python3 tools/build.py clash rule cobleskeg_c`; it needs a C compiler
 import json
 import os
 import pty

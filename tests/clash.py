@@ -1,7 +1,7 @@
 # Runs of the program `clash`: each an input and the lines that the paper asks for, by hand; and runs with an odd standard input or output, where what is printed
 # follows from what could be read, and what could not be written is missing at the end. The gate runs the program on P14 alone, and examples/ has P14 too:
 # `python3 tests/clash.py --write` lays these files out; without `--write` it checks that they are P14, and makes the runs with the program that
-# `rt check clash` or the gate has left in target/bin.
+# `python3 tools/build.py clash` has left in target/bin.
 import fcntl
 import os
 import resource
@@ -203,7 +203,7 @@ def main():
         wrong.append(f"the largest file has {len(LARGEST_FILE)} bytes")
     odd = 0
     if not PROGRAM.is_file():
-        wrong.append("target/bin/clash is not there: run `rt check clash` first")
+        wrong.append("target/bin/clash is not there: run `python3 tools/build.py clash` first")
     else:
         wrong += [f"{what}: not the lines expected" for what, given, lines in RUNS if printed(given) != listed(lines)]
         faults, odd = odd_ends()

@@ -5,20 +5,21 @@ from promises import ROOT
 
 LIST = ROOT / "crates.txt"
 GIVEN = {"std"}  # every crate has it without asking
+PARTS = ("src", "specs", "proofs")  # `rt` keeps copies of texts in a crate's folder `out`
 
 
 def listed():
-    """From each crate to what crates.txt lists for it."""
+    """From each crate to what crates.txt lists for it; a word behind the name of a crate says that it is a static library."""
     lines = (line.split(":") for line in LIST.read_text().splitlines() if line.strip())
-    return {crate: set(rest.split()) for crate, rest in lines}
+    return {kind.split()[0]: set(rest.split()) for kind, rest in lines}
 
 
 def named(crate):
-    """What the sources, specifications and proofs of a crate name: `Rattle·words.specs` in either, `words::has` in code."""
+    """What the sources, specifications and proofs of a crate name: `Rattle.words.specs` in either, `words::has` in code."""
     names = set()
-    for path in (ROOT / "crates" / crate).rglob("*"):
+    for path in (path for part in PARTS for path in (ROOT / "crates" / crate / part).rglob("*")):
         if path.suffix in (".antt", ".rt"):
-            names |= set(re.findall(r"Rattle·(\w+)[.·]", path.read_text()))
+            names |= set(re.findall(r"Rattle\.(\w+)\.", path.read_text()))
         if path.suffix == ".rt":
             code = re.sub(r"//.*", "", path.read_text())
             names |= set(re.findall(r"(?<![\w:])([a-z_]+)::", code))

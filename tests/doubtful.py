@@ -1,6 +1,6 @@
 # A `none` that says nothing: the warnings of `tools/problem.py`, with their lines. Domains and names by themselves; what counts as a template; and templates
 # that have no name even alone, by the program. Expected lines and words stand here by hand.
-#     python3 tests/doubtful.py       after `rt check clash rule`
+#     python3 tests/doubtful.py       after `python3 tools/build.py`
 import sys
 import tempfile
 from pathlib import Path
@@ -212,7 +212,7 @@ def examples():
 
 
 def main():
-    wrong = [f"target/bin/{path.name} is not there: run `rt check {path.name}` first" for path in PROGRAMS if not path.is_file()]
+    wrong = [f"target/bin/{path.name} is not there: run `python3 tools/build.py {path.name}` first" for path in PROGRAMS if not path.is_file()]
     if not wrong:
         with tempfile.TemporaryDirectory() as folder:
             wrong = by_hand() + by_the_tool(Path(folder)) + calls(Path(folder)) + examples()

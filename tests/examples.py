@@ -1,7 +1,7 @@
 # The examples: each is a text, the problem file it is packed into, and the lines that the program prints for it; or a template set. Checked are the packing, the
 # answer of the program and of the second solver, the round trip through `show`, that a solution meets every constraint of its text, what the texts say of changes
 # to them, and the verdicts on the sets; also the examples of docs/TEXT.md. How a search ends and at which node stands here by hand, as each text explains it.
-#     python3 tests/examples.py            after `rt check clash rule`; it builds the second solver with cargo
+#     python3 tests/examples.py            after `python3 tools/build.py`; it builds the second solver with cargo
 #     python3 tests/examples.py --write    lays out the problem files, not the answers
 import subprocess
 import sys
@@ -291,7 +291,7 @@ def main():
     expected = {path(name, ending) for name in EXAMPLES for ending in ("text", "problem", "answer")} | {path(name, "set") for name in SETS}
     present = set(FOLDER.iterdir())
     wrong = [f"{file.name} is not there" for file in sorted(expected - present)] + [f"{file.name} is of no example" for file in sorted(present - expected)]
-    wrong += [f"target/bin/{path.name} is not there: run `rt check {path.name}` first" for path in PROGRAMS if not path.is_file()]
+    wrong += [f"target/bin/{path.name} is not there: run `python3 tools/build.py {path.name}` first" for path in PROGRAMS if not path.is_file()]
     subprocess.run(["cargo", "build", "--release", "--offline", "--quiet", "--target-dir", str(CARGO)], cwd=ROOT / "second", check=True)
     solvers = [PROGRAM, CARGO / "release" / "second"]
     wrong = wrong or list(faults(solvers))

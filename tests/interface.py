@@ -1,6 +1,6 @@
 # The C interface, tested from outside: the C programs and the Rust crates over the archive, and the comparison with the second solver by the thousand.
 #     python3 tests/interface.py [--cases N] [--patterns N] [--seed S]        50,000 cases of seed 1 and 4 patterns for 10 cases, where not said
-# It needs a C and a C++ compiler, nm and cargo, and what `rt staticlib cobleskeg_c` and `rt check clash` leave in target. All that it builds goes to target too.
+# It needs a C and a C++ compiler, nm and cargo, and what `python3 tools/build.py clash cobleskeg_c` leaves in target. All that it builds goes to target too.
 import argparse
 import os
 import re
@@ -20,7 +20,7 @@ HEADER = ROOT / "include" / "cobleskeg.h"
 DECLARATIONS = ROOT / "bindings" / "rust" / "src" / "entries.rs"
 SOURCE = ROOT / "crates" / "cobleskeg_c" / "src" / "lib.rt"
 C_TYPES = {"uint8_t": "u8", "uint32_t": "u32", "uint64_t": "u64", "size_t": "usize", "void": ""}
-MADE_BY = {ARCHIVE: "rt staticlib cobleskeg_c", PROGRAM: "rt check clash"}
+MADE_BY = {ARCHIVE: "python3 tools/build.py cobleskeg_c", PROGRAM: "python3 tools/build.py clash"}
 STATUS = {"none": 0, "found": 1, "spent": 2, "refused": 3}  # of the program `answer`, by its first word
 TROUBLE = 4
 
@@ -83,7 +83,7 @@ def declarations_agree():
     declared = prototypes(HEADER, r"\n(?P<answer>\w+) (?P<name>cobleskeg_\w+)\((?P<parameters>[^)]*)\);", c_parameters)
     for path, pattern, parameters in [
         (DECLARATIONS, r"pub fn (?P<name>cobleskeg_\w+)\((?P<parameters>[^)]*)\)(?: -> (?P<answer>\w+))?;", rust_parameters),
-        (SOURCE, r'#\[no_mangle\]\npub extern "C" fn (?P<name>\w+)\((?P<parameters>[^)]*)\)(?: -> (?P<answer>\w+))?\n', rattle_parameters),
+        (SOURCE, r'#\[unsafe\(no_mangle\)\]\n(?:#\[.*\]\n)*pub extern "C" fn (?P<name>\w+)\((?P<parameters>[^)]*)\)(?: -> (?P<answer>\w+))?\n', rattle_parameters),
     ]:
         other = prototypes(path, pattern, parameters)
         wrong = [name for name in sorted(declared.keys() | other.keys()) if not same_function(declared.get(name), other.get(name))]

@@ -1,6 +1,7 @@
 # Every quotation in a comment of the crates stands word for word in a paragraph of a paper, or in one of the demands of docs/PROMISES.md. Where words are
 # left out of a quotation, "…" shows it. The papers lie beside the project; where they do not, the quotations can't be held against them.
 import re
+from dependencies import PARTS
 from promises import ROOT, demands
 
 PAPERS = [ROOT.parent / "shared" / name for name in ("01-scope.md", "02-change-requests.md")]
@@ -29,7 +30,7 @@ def comments(path):
 
 def quotations():
     """(file, line, quotation) for each of the crates' comments."""
-    paths = sorted(path for path in (ROOT / "crates").rglob("*") if path.suffix in MARKS)
+    paths = sorted(path for part in PARTS for path in ROOT.glob(f"crates/*/{part}/**/*") if path.suffix in MARKS)
     return [(path, line, quoted) for path in paths for line, text in comments(path) for quoted in re.findall(r'"([^"]+)"', text)]
 
 

@@ -1,7 +1,7 @@
 # Rules, from the pattern in a text to the automaton in its file: automata laid out by hand, strings that they accept and reject, broken patterns with the line
 # and the words of their error, the patterns that docs/GUIDE.md teaches; `tools/problem.py` on texts with rules; then a copy of the tools, where a stand-in
 # takes the place of the program that makes automata of patterns.
-#     python3 tests/rules.py        after `rt check clash rule`
+#     python3 tests/rules.py        after `python3 tools/build.py`
 import shutil
 import sys
 import tempfile

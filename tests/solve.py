@@ -1,7 +1,8 @@
 # `tools/problem.py solve` as a script sees it: exit status, standard output and standard error. First with stand-ins that end in every way a program can; then
 # with the program and the archive; then in a copy of the tools, where something is missing. Statuses and words stand here by hand.
-#     python3 tests/solve.py        after `rt check clash rule` and `rt staticlib cobleskeg_c`; it needs a C compiler
+#     python3 tests/solve.py        after `python3 tools/build.py clash rule cobleskeg_c`; it needs a C compiler
 import os
+import re
 import resource
 import shutil
 import subprocess
@@ -15,7 +16,8 @@ from examples import EXAMPLES, FOLDER, ROOT, statements
 TOOL = Path("tools") / "problem.py"
 TARGET = ROOT / "target"
 ARCHIVE = TARGET / "staticlib" / "libcobleskeg_c.a"
-MADE_BY = {TARGET / "bin" / "clash": "rt check clash", TARGET / "bin" / "rule": "rt check rule", ARCHIVE: "rt staticlib cobleskeg_c"}
+BUILD = "python3 tools/build.py"
+MADE_BY = {TARGET / "bin" / "clash": f"{BUILD} clash", TARGET / "bin" / "rule": f"{BUILD} rule", ARCHIVE: f"{BUILD} cobleskeg_c"}
 NONE, FOUND, SPENT, REFUSED, TROUBLE = range(5)
 STATUS = {"none": NONE, "found": FOUND, "spent": SPENT, "refused": REFUSED}
 P14 = FOLDER / "p14.text"
@@ -177,8 +179,8 @@ def library_missing(folder):
     """A budget needs the archive and a compiler once, and then neither; what is older than the archive is built again."""
     root, bare = copied(folder)
     answer, archive = root / "target" / "answer", root / "target" / "staticlib" / ARCHIVE.name
-    wrong = differs("no program", run("solve", P14, **bare), TROUBLE, "", "clash is not there: `python3 tools/build.py` proves and builds it")
-    wrong += differs("no archive", run("solve", P14, "--budget", 2, **bare), TROUBLE, "", "`rt staticlib cobleskeg_c` proves the library and writes it")
+    wrong = differs("no program", run("solve", P14, **bare), TROUBLE, "", f"clash is not there: `{BUILD}` proves and builds it")
+    wrong += differs("no archive", run("solve", P14, "--budget", 2, **bare), TROUBLE, "", f"`{BUILD} cobleskeg_c` proves the library and writes it")
     archive.parent.mkdir(parents=True)
     shutil.copy(ARCHIVE, archive)
     wrong += differs("no compiler", run("solve", P14, "--budget", 2, **bare), TROUBLE, "", "cc cannot be run: No such file")
@@ -193,22 +195,58 @@ def library_missing(folder):
     return wrong
 
 
+# What the stand-in for `rt` says of a crate and of one that it rests on; it leaves what it builds where `rt` does, and takes no other call than the right one.
+STAND_IN_RT = """
+name=${{PWD##*/}}
+case "$name $*" in
+    "clash run" | "rule run") left=out/$name ;;
+    "cobleskeg_c lib") left=out/lib$name.a ;;
+    *) exit 2 ;;
+esac
+printf "{printed}" $name
+[ {status} = 0 ] && echo "$name is built" > $left
+exit {status}"""
+PRINTED = "rt: chose\\nfn model::f: proved\\ncrate model: modules\\nlogic=proved functions=1\\ncrate %s: modules\\n"
+# (the names for tools/build.py, the last line of `rt`, its status, the status of tools/build.py, its lines, what it lays)
+BUILDS = [
+    ([], "logic=proved", 0, 0, ["model proved", "clash proved", "model proved", "rule proved"], {"bin/clash", "bin/rule"}),
+    (["cobleskeg_c"], "logic=proved", 0, 0, ["model proved", "cobleskeg_c proved"], {"staticlib/libcobleskeg_c.a"}),
+    (["rule"], "logic=not-proved", 1, TROUBLE, ["model proved", "rule NOT PROVED"], set()),
+    (["rule", "clash"], "the check was killed", 2, TROUBLE, ["model proved"], set()),
+    (["--proved"], "nothing is asked", 2, 0, [], {"bin/clash", "bin/rule"}),
+    (["absent"], "logic=proved", 0, TROUBLE, [], set()),
+]
+
+
 def building(folder):
-    """tools/build.py shows the lines of `rt` alone, keeps them all, and does not hide that a proof failed."""
+    """tools/build.py says a line of each crate, keeps all that `rt` says, lays what was built and nothing else, and does not hide that a proof failed."""
     root, wrong = folder / "copy", []
-    said = "rt: model proved (7 s)\nnote: a large solution\nrt: {}\n"
-    cases = [("ok, 25 crates proved", 0, 0), ("clash NOT PROVED (exit 1, 8 s)", 1, TROUBLE), ("no such crate", 2, TROUBLE)]
-    for line, status, expected in cases:
-        stand_in(root / "bin", f'[ "$*" = "check clash rule" ] && printf "{said.format(line)}"; exit {status}', "rt")
-        done = subprocess.run([sys.executable, str(root / "tools" / "build.py")], env=dict(os.environ, PATH=str(root / "bin")), capture_output=True)
-        shown = f"rt: model proved (7 s)\nrt: {line}\n"
-        if (done.returncode, done.stdout.decode(), bool(done.stderr)) != (expected, shown, expected != 0):
-            wrong.append(f"build.py: {done}")
-        if (root / "target" / "build.log").read_text() != said.format(line):
+    target = root / "target"
+    for crate, source in (("clash", "main.rt"), ("rule", "main.rt"), ("cobleskeg_c", "lib.rt")):
+        for part in ("src", "out"):
+            (root / "crates" / crate / part).mkdir(parents=True)
+        (root / "crates" / crate / "src" / source).touch()
+
+    def build(words):
+        shutil.rmtree(target, ignore_errors=True)
+        command = [sys.executable, str(root / "tools" / "build.py"), *words]
+        done = subprocess.run(command, env=dict(os.environ, PATH=str(root / "bin")), capture_output=True, text=True)
+        laid = {str(path.relative_to(target)) for path in target.rglob("*") if path.is_file()}
+        return done, re.findall(r"^build: (.+) \(\d+ s\)$", done.stdout, re.MULTILINE), laid - {"build.log"}
+
+    for words, said, status, expected, shown, laid in BUILDS:
+        stand_in(root / "bin", STAND_IN_RT.format(printed=PRINTED + said + "\\n", status=status), "rt")
+        done, lines, found = build(words)
+        if (done.returncode, lines, found, bool(done.stderr)) != (expected, shown, laid, expected != 0) or len(done.stdout.splitlines()) != len(shown):
+            wrong.append(f"build.py {' '.join(words)}: {done}, {sorted(found)}")
+        if any((target / name).read_text() != f"{name.split('/')[1].removeprefix('lib').removesuffix('.a')} is built\n" for name in found & laid):
+            wrong.append(f"build.py {' '.join(words)}: what is in target is not what was built")
+        asked = [] if words == ["--proved"] or not shown else (words or ["clash", "rule"])[: None if status == 0 else 1]
+        if asked and (target / "build.log").read_text() != "".join((PRINTED + said + "\\n").replace("\\n", "\n") % name for name in asked):
             wrong.append("target/build.log is not all that rt prints")
     (root / "bin" / "rt").unlink()
-    done = subprocess.run([sys.executable, str(root / "tools" / "build.py")], env=dict(os.environ, PATH=str(root / "bin")), capture_output=True)
-    return wrong + differs("build.py, no rt", (done.returncode, done.stdout.decode(), done.stderr.decode()), TROUBLE, "", "rt: No such file or directory")
+    done, _, _ = build([])
+    return wrong + differs("build.py, no rt", (done.returncode, done.stdout, done.stderr), TROUBLE, "", "rt: No such file or directory")
 
 
 def main():

@@ -46,7 +46,7 @@ def answer_program():
     if ANSWER.is_file() and ANSWER.stat().st_mtime >= max(part.stat().st_mtime for part in parts):
         return ANSWER
     if not ARCHIVE.is_file():
-        raise Failed(f"{ARCHIVE} is not there, and a budget of your own needs it: `rt staticlib cobleskeg_c` proves the library and writes it")
+        raise Failed(f"{ARCHIVE} is not there, and a budget of your own needs it: `python3 tools/build.py cobleskeg_c` proves the library and writes it")
     # Under a name of its own first, so that nobody runs half a program.
     with tempfile.TemporaryDirectory(dir=TARGET) as folder:
         made = Path(folder) / ANSWER.name

@@ -11,7 +11,7 @@ fn main() {
     let archive = folder.join(ARCHIVE);
     println!("cargo:rerun-if-changed={}", archive.display());
     if !archive.is_file() {
-        eprintln!("{} is not there: `rt staticlib cobleskeg_c` makes it; COBLESKEG_ARCHIVE_DIR names another folder", archive.display());
+        eprintln!("{} is not there: `python3 tools/build.py cobleskeg_c` makes it; COBLESKEG_ARCHIVE_DIR names another folder", archive.display());
         std::process::exit(1);
     }
     println!("cargo:rustc-link-search=native={}", folder.display());

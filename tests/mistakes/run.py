@@ -1,7 +1,7 @@
 # Whether the comparison can fail: each mistake of list.h is planted in a stand-in for the library, and the short run of the comparison must report it.
 #     python3 tests/mistakes/run.py [NAME ...]        all mistakes, where none is named
-# It needs a C compiler, ld, objcopy, ar and cargo, and what `rt staticlib cobleskeg_c` and `rt check clash` leave in target. All that it builds goes to
-# target/mistakes.
+# It needs a C compiler, ld, objcopy, ar and cargo, and what `python3 tools/build.py clash cobleskeg_c` leaves in target. All that it builds goes
+# to target/mistakes.
 import os
 import re
 import subprocess
@@ -16,7 +16,7 @@ TARGET = ROOT / "target"
 BUILT = TARGET / "mistakes"
 ARCHIVE = TARGET / "staticlib" / "libcobleskeg_c.a"
 PROGRAM = TARGET / "bin" / "clash"
-MADE_BY = {ARCHIVE: "rt staticlib cobleskeg_c", PROGRAM: "rt check clash"}
+MADE_BY = {ARCHIVE: "python3 tools/build.py cobleskeg_c", PROGRAM: "python3 tools/build.py clash"}
 ENTRIES = ("read", "unpack", "step", "settle", "index", "settle_by_index", "search", "perform", "perform_by_index", "compile")
 SOURCES = ("standin", "gaps", "reading", "steps", "rounds", "searches", "index", "by_index", "queue", "listed", "patterns", "automata")
 COMPARE = BUILT / "cargo" / "release" / "compare"
