@@ -31,12 +31,12 @@ struct Case {
 }
 
 fn print(rt: &impl Print, text: &[u8]) {
-    streams::write_all(rt, text);
+    let _ = rt.write_all(text);
 }
 
 fn print_number(rt: &impl Print, n: u64) {
     print(rt, b" ");
-    streams::print_decimal(rt, n);
+    let _ = rt.print(n);
 }
 
 fn print_refused(rt: &impl Print, n: u8) {
@@ -67,7 +67,7 @@ fn print_words(rt: &impl Print, words: &[u64]) {
         print_number(rt, words[i]);
         if end - i > 1 {
             print(rt, b"x");
-            streams::print_decimal(rt, (end - i) as u64);
+            let _ = rt.print((end - i) as u64);
         }
         i = end;
     }

@@ -134,12 +134,12 @@ fn left(kind: u8, domains: u8, times: u8) -> u64 {
 
 // One line: the kind, the domains, and the bits that are left.
 fn report(rt: &impl Print, kind: u8, domains: u8, times: u8) {
-    streams::print_decimal(rt, kind as u64);
-    streams::write_all(rt, b" ");
-    streams::print_decimal(rt, domains as u64);
-    streams::write_all(rt, b" ");
-    streams::print_decimal(rt, left(kind, domains, times));
-    streams::write_all(rt, b"\n");
+    let _ = rt.print(kind as u64);
+    let _ = rt.write_all(b" ");
+    let _ = rt.print(domains as u64);
+    let _ = rt.write_all(b" ");
+    let _ = rt.print(left(kind, domains, times));
+    let _ = rt.write_all(b"\n");
 }
 
 // A line for each group of three bytes.

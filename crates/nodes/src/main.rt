@@ -8,9 +8,9 @@
 ghost use Rattle.std.specs.Prelude.{◌≤◌, length};
 
 fn print_line(rt: &impl Print, outcome: &[u8], n: u64) {
-    streams::write_all(rt, outcome);
-    streams::print_decimal(rt, n);
-    streams::write_all(rt, b"\n");
+    let _ = rt.write_all(outcome);
+    let _ = rt.print(n);
+    let _ = rt.write_all(b"\n");
 }
 
 // The outcome, and the nodes that were visited or the refusal's number.

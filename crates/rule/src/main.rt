@@ -11,7 +11,7 @@
 ghost use Rattle.std.specs.Prelude.{◌<◌, length};
 
 fn print(rt: &impl Print, bytes: &[u8]) {
-    streams::write_all(rt, bytes);
+    let _ = rt.write_all(bytes);
 }
 
 fn print_byte(rt: &impl Print, b: u8) {

@@ -22,12 +22,12 @@ enum Answer {
 }
 
 fn print(rt: &impl Print, text: &[u8]) {
-    streams::write_all(rt, text);
+    let _ = rt.write_all(text);
 }
 
 fn print_number(rt: &impl Print, n: u64) {
     print(rt, b" ");
-    streams::print_decimal(rt, n);
+    let _ = rt.print(n);
 }
 
 fn print_refused(rt: &impl Print, n: u8) {

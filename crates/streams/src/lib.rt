@@ -1,17 +1,18 @@
-// Standard input into a buffer; bytes and numbers to standard output.
+// Standard input into a buffer, and a large buffer to read it into.
 //
-// A read that fails ends the input. Of what a write that fails was given, some may be missing; what is printed after it is still tried.
+// A read that fails ends the input.
 
 #![tactic(auto)]
 
 ghost use Rattle.std.specs.Counts.{IsPrefixLen};
-ghost use Rattle.std.specs.Prelude.{◌≡◌, length};
+ghost use Rattle.std.specs.Prelude.{◌≡◌, length, slice_index, EachIndex};
 
 use std::io::Read;
 
-// A buffer of so many zeros, for a large one: its length is all that the prover looks at.
+// A buffer of so many zeros: a literal of this size would be unrolled by the prover.
 pub fn zeros<const N: usize>() -> [u8; N]
-    ensures { length result ≡ N }
+    ensures size { length result ≡ N }
+    ensures zero { EachIndex result (λ k. slice_index result k ≡ 0) }
 {
     [0; N]
 }
@@ -30,14 +31,4 @@ pub fn read_full(rt: &impl Input, buffer: &mut [u8]) -> usize
         }
     }
     done
-}
-
-// Writes the bytes.
-pub fn write_all(rt: &impl Print, bytes: &[u8]) {
-    let _ = rt.write_all(bytes);
-}
-
-// Writes the number's decimal digits.
-pub fn print_decimal(rt: &impl Print, n: u64) {
-    let _ = rt.print(n);
 }
