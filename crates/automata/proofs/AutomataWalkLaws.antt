@@ -1,5 +1,6 @@
 -- The automata of a file, one after the other: the tests of refusal 5, and how the walk from one automaton to the next goes on. Assumes nothing.
-use Rattle.std.proofs.Common.{◌≡◌, ℕ, zero, suc, ◌+◌, ◌-◌, ◌*◌, ◌%◌, ◌<◌, ◌≤◌, Bool, true, false, ◌||◌, eqb, ltb, leb, ◌⊎◌, List, [], ◌∷◌, length, get_or, take, drop, sym, refl, ap, ◌∙◌, subst, inl, inr, ⊎_elim, le_of_eq, arith, length-drop, get_or-drop, take_all, drop-drop, lt-ltb, eq-eqb, ne_eqb, eqb-true, le-leb, leb-true}
+use Rattle.std.proofs.Common.{◌≡◌, ℕ, zero, suc, ◌+◌, ◌-◌, ◌*◌, ◌%◌, ◌<◌, ◌≤◌, max, Bool, true, false, ◌||◌, eqb, ltb, leb, ◌⊎◌, List, [], ◌∷◌, length, get_or, take, drop, sym, refl, ap, ◌∙◌, subst, inl, inr, ⊎_elim, le_of_eq, arith, length-drop, length-take-le, get_or-take, get_or-drop, take_all, drop-drop, lt-ltb, eq-eqb, ne_eqb, eqb-true, le-leb, leb-true}
+use Rattle.std.proofs.lemmas.Bool.{cases_lt}
 use mathlib.Core.Bool.{or-true, false≢true}
 use mathlib.Core.Option.{Option, none, some, bind}
 use borrow.Author.Tests.{eqb-false}
@@ -43,6 +44,16 @@ rest-lent at bs = take_all (length bs - at) (drop at bs) (le_of_eq (length-drop 
 
 -- ---- the moves
 
+-- the n bytes from byte 5 on, as they are lent
+abbrev pub lent_moves : ℕ → List ℕ → List ℕ
+lent_moves n bs = take (5 + n - 5) (drop 5 bs)
+
+pub moves_long : (n : ℕ) (bs : List ℕ) → 5 + n ≤ length bs → length (lent_moves n bs) ≡ n
+moves_long n bs h = omega (arith, length-take-le (5 + n - 5) (drop 5 bs) (omega (arith, length-drop 5 bs)))
+
+pub lent_move : (n : ℕ) (bs : List ℕ) (j : ℕ) → j < n → get_or (lent_moves n bs) j 0 ≡ get_or bs (5 + j) 0
+lent_move n bs j h = get_or-take (5 + n - 5) (drop 5 bs) j 0 (omega arith) ∙ get_or-drop 5 bs j 0
+
 -- the greatest of n bytes from byte 5 on, each counted one higher, so that 255 counts as 0
 pub record Greatest (bs : List ℕ) (n top : ℕ) : Type 0 where
   pub most : (j : ℕ) → j < n → (get_or bs (5 + j) 0 + 1) % 256 ≤ top
@@ -55,14 +66,20 @@ module _ (bs : List ℕ) (n top more : ℕ) (g : Greatest bs n top) (e : more �
   one-most : (new : ℕ) → top ≤ new → more ≤ new → (j : ℕ) → j < n + 1 → (get_or bs (5 + j) 0 + 1) % 256 ≤ new
   one-most new h l = one_more (λ j. (get_or bs (5 + j) 0 + 1) % 256 ≤ new) n (λ j m. let b = g.most j m in omega arith) (subst (λ (v : ℕ). v ≤ new) e l)
 
-  pub greatest_new : top < more → Greatest bs (n + 1) more
+  greatest_new : top < more → Greatest bs (n + 1) more
   greatest_new h = record { most = one-most more (omega arith) (omega arith); here = inr (n, omega arith, e) }
 
-  pub greatest_old : more ≤ top → Greatest bs (n + 1) top
+  greatest_old : more ≤ top → Greatest bs (n + 1) top
   greatest_old h = record {
     most = one-most top (omega arith) h;
     here = ⊎_elim inl (λ y. inr (y.0, (let l = y.1 in omega arith), y.2)) g.here;
   }
+
+  pub greatest_more : Greatest bs (n + 1) (max top more)
+  greatest_more = ⊎_elim
+      (λ h. let m : max top more ≡ more = omega arith in rw m (greatest_new h))
+      (λ h. let m : max top more ≡ top = omega arith in rw m (greatest_old h))
+      (cases_lt top more)
 
 pub greatest_small : (bs : List ℕ) (n top : ℕ) → Greatest bs n top → top < 256
 greatest_small bs n top g = ⊎_elim (λ z. let h : top < 256 = omega arith in h) (λ y. let e = y.2 in let h : top < 256 = omega arith in h) g.here

@@ -1,5 +1,5 @@
 -- An automaton in its bytes: what the model reads there is whole, and where each move stands. Assumes nothing.
-use Rattle.std.proofs.Common.{◌≡◌, ℕ, suc, ◌+◌, ◌*◌, ◌%◌, ◌^◌, ◌<◌, ◌≤◌, Bool, true, cond, ◌||◌, eqb, ltb, ◌≢◌, ◌⊎◌, List, [], map, length, get_or, drop, sym, refl, ap, ◌∙◌, subst, inl, inr, ⊎_elim, mul-le-mul_right, suc-mul, arith, length-drop, length-take-le, get_or-drop, get_or-take, ltb-true, lt-ltb, eq-eqb, ne_eqb, eqb-true, leb-true}
+use Rattle.std.proofs.Common.{◌≡◌, ℕ, suc, ◌+◌, ◌*◌, ◌%◌, ◌^◌, ◌<◌, ◌≤◌, Bool, true, cond, eqb, ltb, ◌≢◌, ◌⊎◌, List, [], map, length, get_or, drop, sym, refl, ap, ◌∙◌, subst, inl, inr, ⊎_elim, mul-le-mul_right, suc-mul, arith, length-drop, length-take-le, get_or-drop, get_or-take, ltb-true, eq-eqb, ne_eqb, eqb-true, leb-true}
 use mathlib.Core.Bool.{false≢true}
 use mathlib.Core.Option.{Option, none, some, none-ne-some, some-injective}
 use lib.ListN
@@ -10,8 +10,8 @@ use Rattle.model.specs.Reading.{pieces, target, known, automaton}
 use Rattle.laws.proofs.LayoutLaws.{part_length}
 use Rattle.laws.proofs.ListLaws.{given-some, and_true, or_true, of-all, get_or_in, get_d_map}
 use Rattle.laws.proofs.ShiftLaws.{bit_past}
-use Rattle.automata.specs.declared.Move.{Move}
-use Rattle.automata.specs.declared.Move.TheVariants.{To, Nothing}
+use Rattle.std.specs.Prelude
+use Rattle.std.specs.Prelude.{Some, None, unwrap_or, is_some}
 use Rattle.automata.specs.Machine.{state_count, machine, move_of, mark_of, Whole}
 use Rattle.laws.proofs.ReadingLaws.{pieces-at, pieces-word}
 
@@ -56,10 +56,6 @@ machine-accepting k bs = refl
 pub known-cases : (q b : ℕ) → known q b ≡ true → (b < q) ⊎ (b ≡ 255)
 unfolding known
 known-cases q b e = ⊎_elim (λ h. inl (ltb-true b q h)) (λ h. inr (eqb-true b 255 h)) (or_true (ltb b q) (eqb b 255) e)
-
-pub state-known : (q b : ℕ) → b < q → known q b ≡ true
-unfolding known
-state-known q b h = ap (λ (t : Bool). t || eqb b 255) (lt-ltb b q h)
 
 pub target_gap : (b : ℕ) → b ≡ 255 → target b ≡ none
 unfolding target
@@ -133,23 +129,20 @@ module _ (k : ℕ) (bs : List ℕ) (w : Whole k bs) (p a : ℕ) (h : p < state_c
   move-state d = move_byte ∙ byte_state (state_count bs) cell w.most-states cell-known d
 
   -- as the code answers it
-  pub next_gap : cell % 64 ≡ 63 → (move_of Nothing ≡ move (machine k bs) p a) × (mark_of (move_of Nothing) < 64)
+  pub next_gap : cell % 64 ≡ 63 → (move_of None ≡ move (machine k bs) p a) × (mark_of (move_of None) < 64)
   unfolding move_of mark_of
   next_gap e = (sym (move_gap e), omega arith)
 
-  pub next-state : cell % 64 ≢ 63 → (move_of (To (cell % 64)) ≡ move (machine k bs) p a) × (mark_of (move_of (To (cell % 64))) < 64)
+  pub next-state : cell % 64 ≢ 63 → (move_of (Some (cell % 64)) ≡ move (machine k bs) p a) × (mark_of (move_of (Some (cell % 64))) < 64)
   unfolding move_of mark_of
   next-state d = (sym (move-state d), omega arith)
 
 -- ---- the bit that stands for a move
 
-pub marked-state : (m : Move) (p : ℕ) → m ≡ To p → p ≡ mark_of (move_of m)
+pub unwrap_mark : (m : Prelude.Option ℕ) → unwrap_or m 63 ≡ mark_of (move_of m)
 unfolding move_of mark_of
-marked-state m p e = ap (λ (n : Move). mark_of (move_of n)) (sym e)
-
-pub marked_gap : (m : Move) → m ≡ Nothing → 63 ≡ mark_of (move_of m)
-unfolding move_of mark_of
-marked_gap m e = ap (λ (n : Move). mark_of (move_of n)) (sym e)
+unwrap_mark None = refl
+unwrap_mark (Some p) = refl
 
 -- no state that a move leads to is n or above
 abbrev pub Below : ℕ → Option ℕ → Type 0
@@ -175,6 +168,11 @@ pub mark-move : (m : Option ℕ) → mark_of m ≢ 63 → (t : ℕ) × (m ≡ so
 unfolding mark_of
 mark-move none d = absurd (d refl)
 mark-move (some p) d = (p, refl)
+
+pub some-move : (m : Prelude.Option ℕ) → is_some m ≡ true → (t : ℕ) × (move_of m ≡ some t)
+unfolding move_of
+some-move None e = absurd (false≢true e)
+some-move (Some p) e = (p, refl)
 
 -- moves with the same bit are the same
 pub mark-one : (m n : Option ℕ) → Below 63 m → Below 63 n → mark_of m ≡ mark_of n → m ≡ n
@@ -202,7 +200,7 @@ unfolding holds
 state-holds set m t e b = ap (holds set) e ∙ b
 
 -- as the code makes it of the move that it was answered
-pub mark-next : {m : ℕ} (n : Move) {o : Option ℕ} → m ≡ mark_of (move_of n) → move_of n ≡ o → m ≡ mark_of o
+pub mark-next : {m : ℕ} (n : Prelude.Option ℕ) {o : Option ℕ} → m ≡ mark_of (move_of n) → move_of n ≡ o → m ≡ mark_of o
 mark-next n e f = e ∙ ap mark_of f
 
 -- the moves of an automaton in its bytes

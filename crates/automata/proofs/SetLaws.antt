@@ -92,12 +92,12 @@ module _ (n w : ℕ) (E : ℕ → ℕ → Type 0) (rest r : ℕ) where
     walked_skip never = walked_step r (λ t h. inl h) (λ t h. h) (λ t x. absurd (never t x))
 
     -- bit a gives the set s
-    pub walked-add : (s : ℕ) → ((t : ℕ) → bit s t ≡ true → E a t) → ((t : ℕ) → E a t → bit s t ≡ true) → Walked n w E (rest - o) (bit_or s r)
-    walked-add s only all = walked_step (bit_or s r) (λ t h. ⊎_elim (λ x. inr (only t x)) (λ x. inl x) (of-or-bit s r t h)) (or-bit-right s r)
-        (λ t x. or-bit-left s r t (all t x))
+    pub walked-add : (s : ℕ) → ((t : ℕ) → bit s t ≡ true → E a t) → ((t : ℕ) → E a t → bit s t ≡ true) → Walked n w E (rest - o) (bit_or r s)
+    walked-add s only all = walked_step (bit_or r s) (λ t h. ⊎_elim inl (λ x. inr (only t x)) (of-or-bit r s t h)) (or-bit-left r s)
+        (λ t x. or-bit-right r s t (all t x))
 
     -- bit a gives the one number m
-    pub walked_one : (m : ℕ) → E a m → ((t : ℕ) → E a t → m ≡ t) → Walked n w E (rest - o) (bit_or (2 ^ m) r)
+    pub walked_one : (m : ℕ) → E a m → ((t : ℕ) → E a t → m ≡ t) → Walked n w E (rest - o) (bit_or r (2 ^ m))
     walked_one m here single = walked-add (2 ^ m)
         (λ t h. subst (E a) (sym (pow-only m t h)) here)
         (λ t x. subst (λ (j : ℕ). bit (2 ^ m) j ≡ true) (single t x) (pow_self m))
@@ -141,7 +141,7 @@ ByEntering A k from into symbols p t = (p ≡ t) × (bit from p ≡ true) × ((a
 
 module _ (A : Automaton) (k symbols : ℕ) where
   pub moves-add : (p rest r a o m u : ℕ) → Walked k symbols (BySymbol A p symbols) rest r → Lowest rest a → o ≡ 2 ^ a → m ≡ mark_of (move A p a) → u ≡ 2 ^ m
-      → Walked k symbols (BySymbol A p symbols) (rest - o) (bit_or u r)
+      → Walked k symbols (BySymbol A p symbols) (rest - o) (bit_or r u)
   moves-add p rest r a o m u g low e n f = rw f (walked_one k symbols _ rest r a o g low e m ((g.known a low.here).1, sym n) (λ t x. n ∙ x.1))
 
   module _ (q from into rest r p o s : ℕ) (b : Bool) (g : Walked q from (ByEntering A k from into symbols) rest r) (low : Lowest rest p) (e : o ≡ 2 ^ p)
@@ -149,14 +149,14 @@ module _ (A : Automaton) (k symbols : ℕ) where
     pub entering-skip : b ≡ false → s ≡ r → Walked q from (ByEntering A k from into symbols) (rest - o) s
     entering-skip h f = rw f (walked_skip q from _ rest r p o g low e (λ t y. let z = y.2 in false≢true (sym h ∙ x.complete z.0 z.1 (z.2, z.3))))
 
-    pub entering-add : (u : ℕ) → b ≡ true → u ≡ 2 ^ p → s ≡ bit_or u r → Walked q from (ByEntering A k from into symbols) (rest - o) s
+    pub entering-add : (u : ℕ) → b ≡ true → u ≡ 2 ^ p → s ≡ bit_or r u → Walked q from (ByEntering A k from into symbols) (rest - o) s
     entering-add u h v f =
         let y = x.sound h in
         rw (f, v) (walked_one q from _ rest r p o g low e p (refl, (g.known p low.here).1, (y.0, y.1, y.2.0, y.2.1)) (λ t z. z.0))
 
   module _ (q set : ℕ) where
     pub successors-add : (rest r p o u : ℕ) → Walked q set (ByState A k set symbols) rest r → Lowest rest p → o ≡ 2 ^ p → Moves A k p symbols u
-        → Walked q set (ByState A k set symbols) (rest - o) (bit_or u r)
+        → Walked q set (ByState A k set symbols) (rest - o) (bit_or r u)
     successors-add rest r p o u g low e x = walked-add q set _ rest r p o g low e u
         (λ t b. let y = x.sound t b in ((g.known p low.here).1, (y.0, y.1, y.2.0, y.2.1)))
         (λ t y. x.complete t y.1.0 y.1.1 (y.1.2, y.1.3))

@@ -117,10 +117,8 @@ module _ (D : Automaton) (k p into symbols rest r a o m s : ℕ) (b : Bool) (g :
   pub by-skip : b ≡ false → s ≡ r → Walked k symbols (ByInto D p into symbols) (rest - o) s
   by-skip q f = rw f (walked_skip k symbols _ rest r a o g low e (λ t x. false≢true (sym q ∙ enters ∙ x.2)))
 
-  pub by-add : b ≡ true → s ≡ bit_or o r → Walked k symbols (ByInto D p into symbols) (rest - o) s
-  by-add q f =
-      let v : s ≡ bit_or (2 ^ a) r = f ∙ ap (λ (i : ℕ). bit_or i r) e in
-      rw v (walked_one k symbols _ rest r a o g low e a (refl, (g.known a low.here).1, sym enters ∙ q) (λ t x. x.0))
+  pub by-add : (u : ℕ) → b ≡ true → u ≡ 2 ^ a → s ≡ bit_or r u → Walked k symbols (ByInto D p into symbols) (rest - o) s
+  by-add u q v f = rw (f, v) (walked_one k symbols _ rest r a o g low e a (refl, (g.known a low.here).1, sym enters ∙ q) (λ t x. x.0))
 
 module _ (D : Automaton) (k p into symbols found : ℕ) where
   -- what is kept for the state

@@ -1,5 +1,5 @@
 -- The kinds of an automaton's symbols, and the symbols by which a move may be missing, as words. Assumes nothing.
-use Rattle.std.specs.Prelude.{◌≡◌, ℕ, ◌+◌, ◌-◌, ◌*◌, ◌^◌, ◌<◌, ◌≤◌, Bool, true, false, cond, ◌≢◌, ◌⊎◌, List, length, drop, ◌==◌, bit_or}
+use Rattle.std.specs.Prelude.{◌≡◌, ℕ, ◌+◌, ◌-◌, ◌*◌, ◌^◌, ◌<◌, IfSome, Bool, true, false, ◌≢◌, ◌⊎◌, List, length, drop, slice_range, nat_le, Option, Some, None, if◌then◌else◌, bit_or}
 use Rattle.std.proofs.Math.Option.{some}
 use Rattle.model.specs.Words.{bit, word}
 use Rattle.model.specs.Constraints.{Automaton, move}
@@ -25,49 +25,52 @@ pub record OneKind (D : Automaton) (q k a w : ℕ) : Type 0 where
 pub record Lacks (D : Automaton) (q k lacking : ℕ) : Type 0 where
   pub total : (a : ℕ) → a < k → bit lacking a ≡ false → Total D q a
 
--- there are no words at all, or 65 from `at` on
-abbrev pub Room : List ℕ → ℕ → Type 0
-Room ks at = (length ks ≡ 0) ⊎ (at + 65 ≤ length ks)
-
--- From `at` on, word a has only symbols of the kind of a, for the symbols below k, and word 64 those by which a move may be missing. Without words each symbol is
--- a kind of its own, and a move may be missing by each.
-pub record Kinds (D : Automaton) (q k : ℕ) (ks : List ℕ) (at : ℕ) : Type 0 where
-  pub room : Room ks at
-  pub each : (a b : ℕ) → a < k → bit (word ks (at + a)) b ≡ true → (b < k) × Alike D q a b
-  pub lacks : length ks ≢ 0 → Lacks D q k (word ks (at + 64))
+-- the word of symbol a: symbols of its kind; without words, none
+abbrev pub kind_of : Option (List ℕ) → ℕ → ℕ
+kind_of None a = 0
+kind_of (Some ks) a = word ks a
 
 -- the symbols by which a move may be missing; without words, all
-abbrev pub lacking_of : List ℕ → ℕ → ℕ
-lacking_of ks at = cond (length ks == 0) (2 ^ 64 - 1) (word ks (at + 64))
+abbrev pub lacking_of : Option (List ℕ) → ℕ
+lacking_of None = 2 ^ 64 - 1
+lacking_of (Some ks) = word ks 64
 
--- U is T with w at each of its symbols, from `at` on
-pub record Spread (T : List ℕ) (at w : ℕ) (U : List ℕ) : Type 0 where
-  pub size : length U ≡ length T
-  pub there : (b : ℕ) → bit w b ≡ true → word U (at + b) ≡ w
-  pub others : (n : ℕ) → ((b : ℕ) → bit w b ≡ true → n ≢ at + b) → word U n ≡ word T n
+-- Word a has only symbols of the kind of a, for the symbols below k, and word 64, where words are lent, those by which a move may be missing. Without words each symbol
+-- is a kind of its own.
+pub record Kinds (D : Automaton) (q k : ℕ) (kinds : Option (List ℕ)) : Type 0 where
+  pub each : (a b : ℕ) → a < k → bit (kind_of kinds a) b ≡ true → (b < k) × Alike D q a b
+  pub lacks : IfSome kinds (λ ks. Lacks D q k (word ks 64))
 
--- U is T; if a move may be missing, word 64 from `at` on has the symbols of w too
-pub record Noted (T : List ℕ) (at w : ℕ) (missing : Bool) (U : List ℕ) : Type 0 where
-  pub size : length U ≡ length T
-  pub others : (n : ℕ) → n ≢ at + 64 → word U n ≡ word T n
-  pub keeps : (b : ℕ) → bit (word T (at + 64)) b ≡ true → bit (word U (at + 64)) b ≡ true
-  pub new : missing ≡ true → (b : ℕ) → bit w b ≡ true → bit (word U (at + 64)) b ≡ true
+-- the same of words that are lent
+abbrev pub KindWords : Automaton → ℕ → ℕ → List ℕ → Type 0
+KindWords D q k ks = Kinds D q k (Some ks)
 
--- only the 65 words from `at` on differ
-pub record Around (T : List ℕ) (at : ℕ) (U : List ℕ) : Type 0 where
+-- the 65 words of automaton i
+abbrev pub words_of : List ℕ → ℕ → List ℕ
+words_of ks i = slice_range ks (65 * i) (65 * i + 65)
+
+-- these, where there are so many
+abbrev pub words_at : List ℕ → ℕ → Option (List ℕ)
+words_at ks i = (if nat_le (65 * i + 65) (length ks) then Some (words_of ks i) else None)
+
+-- U is T with w at each of its symbols
+pub record Spread (T : List ℕ) (w : ℕ) (U : List ℕ) : Type 0 where
   pub size : length U ≡ length T
-  pub before : (n : ℕ) → n < at → word U n ≡ word T n
-  pub after : (n : ℕ) → at + 65 ≤ n → word U n ≡ word T n
+  pub there : (b : ℕ) → bit w b ≡ true → word U b ≡ w
+  pub others : (n : ℕ) → (bit w n ≡ true → ⊥) → word U n ≡ word T n
+
+-- U is T; if a move may be missing, word 64 has the symbols of w too
+pub record Noted (T : List ℕ) (w : ℕ) (missing : Bool) (U : List ℕ) : Type 0 where
+  pub size : length U ≡ length T
+  pub others : (n : ℕ) → n ≢ 64 → word U n ≡ word T n
+  pub keeps : (b : ℕ) → bit (word T 64) b ≡ true → bit (word U 64) b ≡ true
+  pub new : missing ≡ true → (b : ℕ) → bit w b ≡ true → bit (word U 64) b ≡ true
 
 -- a word that is not 0 is its symbol's kind, and word 64 says of its symbol whether a move may be missing; those of the first n symbols are not 0
-pub record Partly (D : Automaton) (q k : ℕ) (ks : List ℕ) (at n : ℕ) : Type 0 where
-  pub each : (a : ℕ) → a < k → (word ks (at + a) ≡ 0) ⊎ OneKind D q k a (word ks (at + a))
-  pub total : (a : ℕ) → a < k → word ks (at + a) ≢ 0 → bit (word ks (at + 64)) a ≡ false → Total D q a
-  pub done : (a : ℕ) → a < n → 0 < word ks (at + a)
-
--- nothing stands at the 65 words from `at` on
-pub record Blank (ks : List ℕ) (at : ℕ) : Type 0 where
-  pub none : (a : ℕ) → a ≤ 64 → word ks (at + a) ≡ 0
+pub record Partly (D : Automaton) (q k : ℕ) (ks : List ℕ) (n : ℕ) : Type 0 where
+  pub each : (a : ℕ) → a < k → (word ks a ≡ 0) ⊎ OneKind D q k a (word ks a)
+  pub total : (a : ℕ) → a < k → word ks a ≢ 0 → bit (word ks 64) a ≡ false → Total D q a
+  pub done : (a : ℕ) → a < n → 0 < word ks a
 
 -- "exactly d automata"
 pub record AllHeld (k d : ℕ) (bs : List ℕ) : Type 0 where
@@ -76,13 +79,13 @@ pub record AllHeld (k d : ℕ) (bs : List ℕ) : Type 0 where
 
 -- the kinds of d automata, wherever in the bytes they start
 pub record AllKinds (k d : ℕ) (bs ks : List ℕ) : Type 0 where
-  pub each : (i r : ℕ) → i < d → Starts k bs i r → Kinds (machine k (drop r bs)) (state_count (drop r bs)) k ks (65 * i)
+  pub each : (i r : ℕ) → i < d → Starts k bs i r → KindWords (machine k (drop r bs)) (state_count (drop r bs)) k (words_of ks i)
 
 -- r has symbols of w; each symbol of w is one of r, or of the kind of one
-pub record Firsts (ks : List ℕ) (at w r : ℕ) : Type 0 where
+pub record Firsts (kinds : Option (List ℕ)) (w r : ℕ) : Type 0 where
   pub within : (a : ℕ) → bit r a ≡ true → bit w a ≡ true
-  pub each : (b : ℕ) → bit w b ≡ true → (a : ℕ) × (bit r a ≡ true) × (bit (bit_or (word ks (at + a)) (2 ^ a)) b ≡ true)
+  pub each : (b : ℕ) → bit w b ≡ true → (a : ℕ) × (bit r a ≡ true) × (bit (bit_or (kind_of kinds a) (2 ^ a)) b ≡ true)
 
 -- these symbols, and those of their kinds
-abbrev pub AllOf : List ℕ → ℕ → ℕ → ℕ → Type 0
-AllOf ks at firsts r = Gathered 64 (λ a t. (bit firsts a ≡ true) × (bit (bit_or (word ks (at + a)) (2 ^ a)) t ≡ true)) r
+abbrev pub AllOf : Option (List ℕ) → ℕ → ℕ → Type 0
+AllOf kinds firsts r = Gathered 64 (λ a t. (bit firsts a ≡ true) × (bit (bit_or (kind_of kinds a) (2 ^ a)) t ≡ true)) r

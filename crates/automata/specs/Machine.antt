@@ -1,12 +1,11 @@
 -- The automaton that some bytes hold, and what refusal 5 leaves of them (document 01, "Problem file"). Assumes nothing.
-use Rattle.std.specs.Prelude.{◌≡◌, ℕ, ◌+◌, ◌*◌, ◌<◌, ◌≤◌, true, List, map, length, drop, slice_index}
+use Rattle.std.specs.Prelude.{◌≡◌, ℕ, ◌+◌, ◌*◌, ◌<◌, ◌≤◌, true, List, map, length, drop, slice_index, Some, None}
+use Rattle.std.specs.Prelude
 use Rattle.std.proofs.Math.Option.{Option, none, some}
 use Rattle.model.specs.Words.{none_from}
 use Rattle.model.specs.Constraints.{Automaton}
 use Rattle.model.specs.Layout.{little, part}
 use Rattle.model.specs.Reading.{pieces, target, known}
-use Rattle.automata.specs.declared.Move.{Move}
-use Rattle.automata.specs.declared.Move.TheVariants.{To, Nothing}
 
 -- "a state count q"
 abbrev pub state_count : List ℕ → ℕ
@@ -17,9 +16,9 @@ unfoldable pub machine : ℕ → List ℕ → Automaton
 machine k bs = record { accepting = little (part 1 4 bs); moves = map (map target) (pieces (state_count bs) k (drop 5 bs)) }
 
 -- "The move from a state by a symbol now gives a state or nothing": as the code answers it
-unfoldable pub move_of : Move → Option ℕ
-move_of (To p) = some p
-move_of Nothing = none
+unfoldable pub move_of : Prelude.Option ℕ → Option ℕ
+move_of (Some p) = some p
+move_of None = none
 
 -- the bit that stands for a move in a set: that of its state, and 63, which no state has, for nothing
 unfoldable pub mark_of : Option ℕ → ℕ

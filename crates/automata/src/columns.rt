@@ -3,168 +3,176 @@
 // no move. That all of a kind are there is not said. Where no words are lent at all, each symbol is a kind of its own, and any move may be missing: for one step
 // alone, words would cost more than they save.
 //
-// Assumes nothing. `requires` asks what refusals 3 and 5 leave: at most 64 symbols and 8 automata, automata that the bytes hold; and room for 65 words.
-ghost use Rattle.std.specs.Prelude.{◌≡◌, ◌+◌, ◌*◌, ◌<◌, ◌≤◌, true, false, length, replicate};
+// Assumes nothing. `requires` asks what refusals 3 and 5 leave: at most 64 symbols and 8 automata, automata that the bytes hold; and room for their words.
+ghost use Rattle.std.specs.Prelude.{◌≡◌, ◌+◌, ◌*◌, ◌<◌, ◌≤◌, true, false, length, option_copied};
 ghost use Rattle.automata.specs.Machine.{state_count, machine, Whole};
-ghost use Rattle.automata.specs.Kinds.{Alike, Total, OneKind, Kinds, Room, lacking_of, Spread, Noted, Around, Partly, Blank};
+ghost use Rattle.automata.specs.Kinds.{Alike, Total, OneKind, Kinds, KindWords, lacking_of, words_at, Spread, Noted, Partly};
 ghost use Rattle.automata.specs.Kinds.{AllHeld, AllKinds, Firsts, AllOf};
 
-use crate::{mark, next, start, states};
+use crate::{Automaton, mark, start, states};
 
-// Whether every state moves alike by two symbols.
-fn same_column(d: &[u8], k: usize, a: usize, b: usize) -> bool
-    requires { (k ≤ 64) × Whole k d.now × (a < k) × (b < k) }
-    ensures { result ≡ true → Alike (machine k d.now) (state_count d.now) a b }
-{
-    let q = states(d);
-    let mut p: usize = 0;
-    while p < q {
-        if mark(next(d, k, p, a)) != mark(next(d, k, p, b)) {
-            return false;
+impl<'a> Automaton<'a> {
+    // Whether every state moves alike by two symbols.
+    fn same_column(self, a: usize, b: usize) -> bool
+        requires { (a < self.k) × (b < self.k) }
+        ensures { result ≡ true → Alike (machine self.entry.k self.entry.bytes.now) (state_count self.entry.bytes.now) a b }
+    {
+        for p in 0..states(self.bytes) {
+            if mark(self.next(p, a)) != mark(self.next(p, b)) {
+                return false;
+            }
         }
-        p += 1;
+        true
     }
-    true
-}
 
-// Whether some state may have no move by the symbol.
-fn lacks(d: &[u8], k: usize, a: usize) -> bool
-    requires { (k ≤ 64) × Whole k d.now × (a < k) }
-    ensures { result ≡ false → Total (machine k d.now) (state_count d.now) a }
-{
-    let q = states(d);
-    let mut p: usize = 0;
-    while p < q {
-        if mark(next(d, k, p, a)) == 63 {
-            return true;
+    // Whether some state may have no move by the symbol.
+    fn lacks(self, a: usize) -> bool
+        requires { a < self.k }
+        ensures { result ≡ false → Total (machine self.entry.k self.entry.bytes.now) (state_count self.entry.bytes.now) a }
+    {
+        for p in 0..states(self.bytes) {
+            if self.next(p, a).is_none() {
+                return true;
+            }
         }
-        p += 1;
+        false
     }
-    false
-}
 
-// Symbol a, and the symbols past it by which every state moves as by a.
-fn alike(d: &[u8], k: usize, a: usize) -> u64
-    requires { (k ≤ 64) × Whole k d.now × (a < k) }
-    ensures { OneKind (machine k d.now) (state_count d.now) k a result }
-{
-    let mut r = words::singleton(a);
-    let mut b = a + 1;
-    while b < k {
-        if same_column(d, k, a, b) {
-            r = words::singleton(b) | r;
+    // Symbol a, and the symbols past it by which every state moves as by a.
+    fn alike(self, a: usize) -> u64
+        requires { a < self.k }
+        ensures { OneKind (machine self.entry.k self.entry.bytes.now) (state_count self.entry.bytes.now) self.entry.k a result }
+    {
+        let mut r = words::singleton(a);
+        for b in a + 1..self.k {
+            if self.same_column(a, b) {
+                r |= words::singleton(b);
+            }
         }
-        b += 1;
+        r
     }
-    r
+
+    // Finds the kind of symbol a, where it is none of a symbol before it.
+    fn find(self, ks: &mut [u64; 65], a: usize)
+        requires { (a < self.k) × (length ks.old ≡ 65) × Partly (machine self.k self.bytes.now) (state_count self.bytes.now) self.k ks.old a }
+        ensures { Partly (machine self.entry.k self.entry.bytes.now) (state_count self.entry.bytes.now) self.entry.k ks.new (a + 1) }
+    {
+        if ks[a] != 0 {
+            return;
+        }
+        let w = self.alike(a);
+        spread(ks, w);
+        note(ks, w, self.lacks(a));
+    }
+
+    // The kinds of the automaton.
+    fn kinds(self) -> [u64; 65]
+        ensures { KindWords (machine self.entry.k self.entry.bytes.now) (state_count self.entry.bytes.now) self.entry.k result }
+    {
+        let mut ks = [0; 65];
+        for a in 0..self.k {
+            self.find(&mut ks, a);
+        }
+        ks
+    }
 }
 
 // Writes the word at each of its symbols.
-fn spread(ks: &mut [u64], at: usize, w: u64)
-    requires { at + 64 ≤ length ks.old }
-    ensures { Spread ks.old at w ks.new }
+fn spread(ks: &mut [u64; 65], w: u64)
+    requires { length ks.old ≡ 65 }
+    ensures { Spread ks.old w ks.new }
 {
-    let mut rest = w;
-    while rest != 0 {
-        let a = words::lowest(rest);
-        ks[at + a] = w;
-        rest -= words::singleton(a);
+    for a in words::each_bit(w) {
+        ks[a] = w;
     }
 }
 
 // Notes in word 64 that a move may be missing by the symbols of the word, if so.
-fn note(ks: &mut [u64], at: usize, w: u64, missing: bool)
-    requires { at + 65 ≤ length ks.old }
-    ensures { Noted ks.old at w missing ks.new }
+fn note(ks: &mut [u64; 65], w: u64, missing: bool)
+    requires { length ks.old ≡ 65 }
+    ensures { Noted ks.old w missing ks.new }
 {
     if missing {
-        ks[at + 64] = w | ks[at + 64];
+        ks[64] |= w;
     }
 }
 
-// Finds the kind of symbol a, where it is none of a symbol before it.
-fn find(d: &[u8], k: usize, ks: &mut [u64], at: usize, a: usize)
-    requires { (k ≤ 64) × Whole k d.now × (a < k) × (at + 65 ≤ length ks.old) × Partly (machine k d.now) (state_count d.now) k ks.old at a }
-    ensures { Partly (machine k d.now) (state_count d.now) k ks.new at (a + 1)
-        × Around ks.old at ks.new }
-{
-    if ks[at + a] != 0 {
-        return;
-    }
-    let w = alike(d, k, a);
-    spread(ks, at, w);
-    note(ks, at, w, lacks(d, k, a));
-}
-
-// The kinds of one automaton, from `at` on.
-fn kinds_of(d: &[u8], k: usize, ks: &mut [u64], at: usize)
-    requires { (k ≤ 64) × Whole k d.now × (at + 65 ≤ length ks.old) × Blank ks.old at }
-    ensures { Kinds (machine k d.now) (state_count d.now) k ks.new at × Around ks.old at ks.new }
-{
-    let mut a: usize = 0;
-    while a < k {
-        find(d, k, ks, at, a);
-        a += 1;
-    }
-}
-
-// The kinds of all d automata, those of automaton i from 65 i on, into words that are 0. They are lent: by value they would lie on the stack twice.
+// The kinds of all d automata, those of automaton i from 65 i on. They are lent: by value all would lie on the stack twice.
 pub fn kinds(bytes: &[u8], k: usize, d: usize, ks: &mut [u64])
-    requires { (k ≤ 64) × (d ≤ 8) × AllHeld k d bytes.now × (ks.old ≡ replicate 520 0) }
+    requires { (k ≤ 64) × (d ≤ 8) × AllHeld k d bytes.now × (length ks.old ≡ 520) }
     ensures { AllKinds k d bytes.now ks.new × (length ks.new ≡ 520) }
 {
-    let mut i: usize = 0;
-    while i < d {
+    for i in 0..d {
         let at = start(bytes, k, i);
-        kinds_of(&bytes[at..], k, ks, 65 * i);
-        i += 1;
+        let own = Automaton {
+            bytes: &bytes[at..],
+            k,
+        }
+        .kinds();
+        ks[65 * i..65 * i + 65].copy_from_slice(&own);
     }
+}
+
+// The kinds of automaton i, if words are lent.
+pub fn kinds_at(ks: &[u64], i: usize) -> Option<&[u64; 65]>
+    requires { i < 8 }
+    ensures { option_copied result ≡ words_at ks.now i }
+{
+    ks.get(65 * i..65 * i + 65)?.try_into().ok()
 }
 
 // One symbol of each kind that the word has.
-pub fn firsts(ks: &[u64], at: usize, w: u64) -> u64
-    requires { Room ks.now at }
-    ensures { Firsts ks.now at w result }
+pub fn firsts(kinds: Option<&[u64; 65]>, w: u64) -> u64
+    ensures { Firsts (option_copied kinds.entry) w result }
 {
-    if ks.len() == 0 {
-        return w;
+    match kinds {
+        Some(ks) => firsts_of(ks, w),
+        None => w,
     }
+}
+
+// The same, by the words that are lent. Each turn takes a whole kind off, so that the symbols to come are not those of an iterator over the word.
+fn firsts_of(ks: &[u64; 65], w: u64) -> u64
+    ensures { Firsts (Some ks.now) w result }
+{
     let mut rest = w;
     let mut r: u64 = 0;
     while rest != 0 {
         let a = words::lowest(rest);
         let alone = words::singleton(a);
-        r = alone | r;
-        rest = rest & !(ks[at + a] | alone);
+        r |= alone;
+        rest &= !(ks[a] | alone);
     }
     r
 }
 
 // These symbols, and all of their kinds.
-pub fn all_of(ks: &[u64], at: usize, firsts: u64) -> u64
-    requires { Room ks.now at }
-    ensures { AllOf ks.now at firsts result }
+pub fn all_of(kinds: Option<&[u64; 65]>, firsts: u64) -> u64
+    ensures { AllOf (option_copied kinds.entry) firsts result }
 {
-    if ks.len() == 0 {
-        return firsts;
+    match kinds {
+        Some(ks) => all_kinds_of(ks, firsts),
+        None => firsts,
     }
-    let mut rest = firsts;
+}
+
+// The same, by the words that are lent.
+fn all_kinds_of(ks: &[u64; 65], firsts: u64) -> u64
+    ensures { AllOf (Some ks.now) firsts result }
+{
     let mut r = firsts;
-    while rest != 0 {
-        let a = words::lowest(rest);
-        r = ks[at + a] | r;
-        rest -= words::singleton(a);
+    for a in words::each_bit(firsts) {
+        r |= ks[a];
     }
     r
 }
 
 // The symbols by which a move may be missing.
-pub fn lacking(ks: &[u64], at: usize) -> u64
-    requires { Room ks.now at }
-    ensures { result ≡ lacking_of ks.now at }
+pub fn lacking(kinds: Option<&[u64; 65]>) -> u64
+    ensures { result ≡ lacking_of (option_copied kinds.entry) }
 {
-    if ks.len() == 0 {
-        return u64::MAX;
+    match kinds {
+        Some(ks) => ks[64],
+        None => u64::MAX,
     }
-    ks[at + 64]
 }

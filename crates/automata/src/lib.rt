@@ -9,7 +9,7 @@
 // `successors`, `entering` and `leads` go through the set bits of a word alone, the lowest first: most places allow few symbols, and most sets have few
 // states.
 //
-// Assumes nothing. `requires` asks what refusals 3 and 5 leave: at most 64 symbols, and an automaton's whole bytes.
+// Assumes nothing. What refusals 3 and 5 leave, at most 64 symbols and an automaton's whole bytes, every `Automaton` has.
 
 #![tactic(auto)]
 
@@ -23,9 +23,18 @@ ghost use Rattle.model.specs.Layout.{little, part};
 ghost use Rattle.automata.specs.Machine.{state_count, machine, move_of, mark_of, Whole};
 ghost use Rattle.automata.specs.StateSets.{LowBits, Moves, Enters, Leads, Successors, Entering};
 
-pub use columns::{all_of, firsts, kinds, lacking};
-pub use targets::{Entrants, forget, steps_back, steps_to};
+pub use columns::{all_of, firsts, kinds, kinds_at, lacking};
+pub use targets::{Entrants, forget};
 pub use walk::{all_whole, start};
+
+// An automaton over k symbols, in the bytes that begin with it.
+#[derive(Clone, Copy)]
+pub struct Automaton<'a> {
+    pub bytes: &'a [u8],
+    pub k: usize,
+    pub ghost few: { k ≤ 64 },
+    pub ghost whole: { Whole k bytes.now },
+}
 
 // How many states there are.
 pub fn states(d: &[u8]) -> usize
@@ -43,34 +52,11 @@ pub fn accepting(d: &[u8]) -> u32
     little::four(d, 1)
 }
 
-// What a state moves to by a symbol: a state, or nothing.
-#[derive(Clone, Copy)]
-pub enum Move {
-    To(usize),
-    Nothing,
-}
-
-// The move from state p by symbol a. Of the bytes that refusal 5 leaves, 255 alone is 63 modulo 64: as `mark` makes 63 of nothing, the compiler sees that the two
-// together leave the byte as it is, and a move that may be missing costs no more than one that may not.
-pub fn next(d: &[u8], k: usize, p: usize, a: usize) -> Move
-    requires { (k ≤ 64) × Whole k d.now × (p < state_count d.now) × (a < k) }
-    ensures { (move_of result ≡ move (machine k d.now) p a) × (mark_of (move_of result) < 64) }
-{
-    let to = (d[5 + p * k + a] % 64) as usize;
-    if to == 63 {
-        return Move::Nothing;
-    }
-    Move::To(to)
-}
-
 // The bit that stands for a move in a set: that of its state, and 63, which no state has, for nothing.
-fn mark(m: Move) -> usize
+fn mark(m: Option<usize>) -> usize
     ensures { result ≡ mark_of (move_of m) }
 {
-    match m {
-        Move::To(p) => p,
-        Move::Nothing => 63,
-    }
+    m.unwrap_or(63)
 }
 
 // The set of state p alone.
@@ -96,81 +82,79 @@ pub fn states_in(set: u64) -> u32
     below(set, 32) as u32
 }
 
-// The states that state p moves to by some symbol of the word; marked.
-fn moves(d: &[u8], k: usize, p: usize, symbols: u64) -> u64
-    requires { (k ≤ 64) × Whole k d.now × (p < state_count d.now) }
-    ensures { Moves (machine k d.now) k p symbols result }
-{
-    let mut rest = below(symbols, k);
-    let mut r: u64 = 0;
-    while rest != 0 {
-        let a = words::lowest(rest);
-        r = words::singleton(mark(next(d, k, p, a))) | r;
-        rest -= words::singleton(a);
-    }
-    r
-}
-
-// Whether state p moves into the set by some symbol of the word. The first such symbol will do: where many are allowed, it is soon found.
-fn enters(d: &[u8], k: usize, p: usize, set: u32, symbols: u64) -> bool
-    requires { (k ≤ 64) × Whole k d.now × (p < state_count d.now) }
-    ensures { Enters (machine k d.now) k p set symbols result }
-{
-    let mut rest = below(symbols, k);
-    while rest != 0 {
-        let a = words::lowest(rest);
-        if words::has(set as u64, mark(next(d, k, p, a))) {
-            return true;
+impl<'a> Automaton<'a> {
+    // The state that state p moves to by symbol a, if there is one. Of the bytes that refusal 5 leaves, 255 alone is 63 modulo 64: as `mark` makes 63 of nothing,
+    // the compiler sees that the two together leave the byte as it is, and a move that may be missing costs no more than one that may not.
+    pub fn next(self, p: usize, a: usize) -> Option<usize>
+        requires { (p < state_count self.bytes.now) × (a < self.k) }
+        ensures { (move_of result ≡ move (machine self.entry.k self.entry.bytes.now) p a) × (mark_of (move_of result) < 64) }
+    {
+        let to = (self.bytes[5 + p * self.k + a] % 64) as usize;
+        if to == 63 {
+            return None;
         }
-        rest -= words::singleton(a);
+        Some(to)
     }
-    false
-}
 
-// Whether some state of the first set moves into the second by symbol a. The first such state will do.
-pub fn leads(d: &[u8], k: usize, from: u32, into: u32, a: usize) -> bool
-    requires { (k ≤ 64) × Whole k d.now × (a < k) }
-    ensures { Leads (machine k d.now) (state_count d.now) from into a result }
-{
-    let mut rest = below(from as u64, states(d));
-    while rest != 0 {
-        let p = words::lowest(rest);
-        if words::has(into as u64, mark(next(d, k, p, a))) {
-            return true;
+    // The states that state p moves to by some symbol of the word; marked.
+    fn moves(self, p: usize, symbols: u64) -> u64
+        requires { p < state_count self.bytes.now }
+        ensures { Moves (machine self.entry.k self.entry.bytes.now) self.entry.k p symbols result }
+    {
+        let mut r: u64 = 0;
+        for a in words::each_bit(below(symbols, self.k)) {
+            r |= words::singleton(mark(self.next(p, a)));
         }
-        rest -= words::singleton(p);
+        r
     }
-    false
-}
 
-// The states that some state of the set moves to by some symbol of the word; marked.
-pub fn successors(d: &[u8], k: usize, set: u64, symbols: u64) -> u64
-    requires { (k ≤ 64) × Whole k d.now }
-    ensures { Successors (machine k d.now) (state_count d.now) k set symbols result }
-{
-    let mut rest = below(set, states(d));
-    let mut r: u64 = 0;
-    while rest != 0 {
-        let p = words::lowest(rest);
-        r = moves(d, k, p, symbols) | r;
-        rest -= words::singleton(p);
-    }
-    r
-}
-
-// The states of the first set that move into the second by some symbol of the word.
-pub fn entering(d: &[u8], k: usize, from: u32, into: u32, symbols: u64) -> u32
-    requires { (k ≤ 64) × Whole k d.now }
-    ensures { Entering (machine k d.now) (state_count d.now) k from into symbols result }
-{
-    let mut rest = below(from as u64, states(d));
-    let mut r: u32 = 0;
-    while rest != 0 {
-        let p = words::lowest(rest);
-        if enters(d, k, p, into, symbols) {
-            r = only(p) | r;
+    // Whether state p moves into the set by some symbol of the word. The first such symbol will do: where many are allowed, it is soon found.
+    fn enters(self, p: usize, set: u32, symbols: u64) -> bool
+        requires { p < state_count self.bytes.now }
+        ensures { Enters (machine self.entry.k self.entry.bytes.now) self.entry.k p set symbols result }
+    {
+        for a in words::each_bit(below(symbols, self.k)) {
+            if words::has(set as u64, mark(self.next(p, a))) {
+                return true;
+            }
         }
-        rest -= words::singleton(p);
+        false
     }
-    r
+
+    // Whether some state of the first set moves into the second by symbol a. The first such state will do.
+    pub fn leads(self, from: u32, into: u32, a: usize) -> bool
+        requires { a < self.k }
+        ensures { Leads (machine self.entry.k self.entry.bytes.now) (state_count self.entry.bytes.now) from into a result }
+    {
+        for p in words::each_bit(below(from as u64, states(self.bytes))) {
+            if words::has(into as u64, mark(self.next(p, a))) {
+                return true;
+            }
+        }
+        false
+    }
+
+    // The states that some state of the set moves to by some symbol of the word; marked.
+    pub fn successors(self, set: u64, symbols: u64) -> u64
+        ensures { Successors (machine self.entry.k self.entry.bytes.now) (state_count self.entry.bytes.now) self.entry.k set symbols result }
+    {
+        let mut r: u64 = 0;
+        for p in words::each_bit(below(set, states(self.bytes))) {
+            r |= self.moves(p, symbols);
+        }
+        r
+    }
+
+    // The states of the first set that move into the second by some symbol of the word.
+    pub fn entering(self, from: u32, into: u32, symbols: u64) -> u32
+        ensures { Entering (machine self.entry.k self.entry.bytes.now) (state_count self.entry.bytes.now) self.entry.k from into symbols result }
+    {
+        let mut r: u32 = 0;
+        for p in words::each_bit(below(from as u64, states(self.bytes))) {
+            if self.enters(p, into, symbols) {
+                r |= only(p);
+            }
+        }
+        r
+    }
 }

@@ -8,8 +8,8 @@ use Prim.Native.Nat.{ℕ, zero, suc, ◌+◌, ◌-◌, ◌*◌, ◌/◌, ◌%◌
 use native.Mathlib.Omega.{arith}
 use lib.Bits.{bit_and, bit_or, or_self, or_zero_l, or_zero_r}
 use lib.Dec.{ltb}
-use lib.ListN.{length, get_or-eq_default}
-use lib.Seq.{ext_get_or}
+use lib.ListN.{length, set, length-set, get_or-eq_default}
+use lib.Seq.{ext_get_or, get_or-set_same, get_or-set_other}
 use borrow.Author.Tests.{lt-ltb, le-ltb, ltb-true, ltb-false}
 use Rattle.model.specs.Lists.{upto}
 use Rattle.model.specs.Words.{bit, word, Words}
@@ -18,18 +18,19 @@ use Rattle.words.specs.Ends.{Highest, Lowest}
 use Rattle.rows.specs.Rows.{joined}
 use Rattle.rows.proofs.Fill.{tabulated_length, tabulated_word}
 use Rattle.rows.proofs.MeetLaws.{joined-or}
-use Rattle.laws.proofs.DomainLaws.{row-length}
 use Rattle.laws.proofs.WordLaws.{within_antisym, of-or-bit, or-bit-left, or-bit-right, sub_within}
 use Rattle.laws.proofs.Supports.{or_words, or_words-length, or_words-word}
+use Rattle.std.proofs.lemmas.Nat.{or_comm}
 use Rattle.inplace.specs.InTable.{both, Meets}
-use Rattle.inplace.proofs.Tables.{row_first, highest-most, same_row}
+use Rattle.inplace.specs.Adding.{Added}
+use Rattle.inplace.proofs.Tables.{row_first, highest-most}
 use Rattle.laws.proofs.ShiftLaws.{of-and-bit, bit-shr}
 use Rattle.cat.specs.Splits.{Three, Split, Supported}
 use Rattle.cat.specs.Strings.{Strings}
-use Rattle.cat.specs.Gathering.{Added, Lengthened, Gathered, Advanced}
+use Rattle.cat.specs.declared.Rows.{Rows}
+use Rattle.cat.specs.Gathering.{Gathered, Advanced}
 use Rattle.cat.proofs.CatLaws.{outside-next, outside-skip}
 use Rattle.cat.proofs.SplitRow.{whole_row}
-use Rattle.cat.proofs.RowLoops.{Placed, placed}
 use Rattle.cat.proofs.SplitLaws.{r-begun, r-ended, top-z, empty-split, left_split, parts_supported}
 
 -- ---- a row from its lengths and its first n places
@@ -65,14 +66,17 @@ module _ (lengths n : ℕ) (f : ℕ → ℕ) (small : n < 64) where
 
 -- ---- unions
 
-or-again : (a b : ℕ) → bit_or a (bit_or a b) ≡ bit_or a b
-or-again a b = within_antisym (bit_or a (bit_or a b)) (bit_or a b) (λ c e. ⊎_elim (or-bit-left a b c) (λ q. q) (of-or-bit a (bit_or a b) c e))
-    (or-bit-right a (bit_or a b))
+or-again : (a b : ℕ) → bit_or (bit_or a b) b ≡ bit_or a b
+or-again a b = within_antisym (bit_or (bit_or a b) b) (bit_or a b) (λ c e. ⊎_elim (λ q. q) (or-bit-right a b c) (of-or-bit (bit_or a b) b c e))
+    (or-bit-left (bit_or a b) b)
 
-joined_is : (a s t : List ℕ) → length t ≡ 64 → word t 0 ≡ bit_or (word a 0) (word s 0) → ((i : ℕ) → word t (suc i) ≡ bit_or (word a (suc i)) (word s (suc i)))
+joined_is : (a s t : List ℕ) → length t ≡ 64 → word t 0 ≡ bit_or (word s 0) (word a 0) → ((i : ℕ) → word t (suc i) ≡ bit_or (word s (suc i)) (word a (suc i)))
     → t ≡ joined a s
 joined_is a s t l e f = ext_get_or 0 t (or_words 64 a s) (l ∙ sym (or_words-length 64 a s))
-    (elim [ zero ↦ λ h. e ∙ sym (or_words-word 64 a s 0 (omega arith)) | suc i ↦ λ h. f i ∙ sym (or_words-word 64 a s (suc i) (omega arith)) ])
+    (elim [
+      | zero ↦ λ h. e ∙ or_comm (word s 0) (word a 0) ∙ sym (or_words-word 64 a s 0 (omega arith))
+      | suc i ↦ λ h. f i ∙ or_comm (word s (suc i)) (word a (suc i)) ∙ sym (or_words-word 64 a s (suc i) (omega arith))
+    ])
     ∙ sym (joined-or a s)
 
 -- ---- the choices of the least length of rest
@@ -93,7 +97,7 @@ split-room T x y z p s₃ h high =
 pub split-within : (w mask h top : ℕ) → Highest w h → Highest (bit_and w mask) top → top ≤ h
 split-within w mask h top p q = highest-most w h top p (of-and-bit w mask top q.here).0
 
-module _ (T : List ℕ) (x y z last p : ℕ) (s₃ : Strings T x y z) (bd : Words T) (small : p < 64) (rest : ℕ) (low : Lowest rest p) (R : List ℕ)
+module _ (T : List ℕ) (x y z last p : ℕ) (s₃ : Strings T x y z) (bd : Words T) (small : p < 64) (rest : ℕ) (low : Lowest rest p) (R : Rows)
     (g : Gathered T x y z rest last R) where
   allowed : bit (word T (64 * x)) p ≡ true
   allowed = g.allowed p low.here
@@ -109,8 +113,7 @@ module _ (T : List ℕ) (x y z last p : ℕ) (s₃ : Strings T x y z) (bd : Word
   -- no choice has p symbols in its first string
   gather-skip : ((v : Three) → Split (row T x) (row T y) (row T z) p v → ⊥) → Gathered T x y z (rest - 2 ^ p) last R
   gather-skip never = record {
-    size = g.size;
-    support = outside-skip (row T x) (row T y) (row T z) rest p low.here never (row R 0) (row R 1) (row R 2) g.support;
+    support = outside-skip (row T x) (row T y) (row T z) rest p low.here never R.x R.y R.z g.support;
     ahead = λ b e. g.ahead b (later b e).0;
     allowed = λ b e. g.allowed b (later b e).0;
     meeting = λ b e. g.meeting b (later b e).0;
@@ -183,184 +186,170 @@ module _ (T : List ℕ) (x y z last p : ℕ) (s₃ : Strings T x y z) (bd : Word
       up = g.ahead p low.here
 
       -- a place between the last length and p
-      between : (u v : List ℕ) → Placed u last T (64 * z + last) (64 * x + last) (p - last) v → (i : ℕ) → last ≤ i → i < p
-          → word v (suc i) ≡ bit_or (begun i) (word u (suc i))
+      between : (u v : List ℕ) → Added u last T (64 * z + last) (64 * x + last) (p - last) v → (i : ℕ) → last ≤ i → i < p
+          → word v (suc i) ≡ bit_or (word u (suc i)) (begun i)
       between u v t i l k =
           let e : last + (i - last) ≡ i = omega arith in
           let ez : suc (64 * z + last + (i - last)) ≡ suc (64 * z + i) = omega arith in
           let ex : suc (64 * x + last + (i - last)) ≡ suc (64 * x + i) = omega arith in
           ap (λ (n : ℕ). word v (suc n)) (sym e) ∙ t.done (i - last) (omega arith)
-          ∙ ap₂ bit_or (ap₂ (λ (m n : ℕ). bit_and (word T m) (word T n)) ez ex) (ap (λ (n : ℕ). word u (suc n)) e)
+          ∙ ap₂ bit_or (ap (λ (n : ℕ). word u (suc n)) e) (ap₂ (λ (m n : ℕ). bit_and (word T m) (word T n)) ez ex)
 
-      module _ (one : ℕ) (e₁ : one ≡ 2 ^ p) (R₀ R₁ S : List ℕ) (long : Lengthened R one ok okz R₀)
-          (t₁ : Added R₀ last (128 + last) T (64 * z + last) (64 * x + last) (p - last) R₁) (t₂ : Added R₁ 64 (128 + p) T (64 * z + p) (64 * y) top S) where
-        size₀ : length R₀ ≡ 192
-        size₀ = long.size ∙ g.size
+      -- a row with lengths more
+      abbrev with : List ℕ → ℕ → List ℕ
+      with u w = set u 0 (bit_or (word u 0) w)
 
-        size₁ : length R₁ ≡ 192
-        size₁ = t₁.size ∙ size₀
+      module _ (one : ℕ) (e₁ : one ≡ 2 ^ p) (Z : List ℕ) (S : Rows)
+          (t₁ : Added (with R.x one) last T (64 * z + last) (64 * x + last) (p - last) S.x)
+          (t₂ : Added (with R.y ok) 0 T (64 * z + p) (64 * y) top S.y)
+          (t₃ : Added (with R.z okz) last T (64 * z + last) (64 * x + last) (p - last) Z)
+          (t₄ : Added Z p T (64 * z + p) (64 * y) top S.z) where
+        lx : length R.x ≡ 64
+        lx = g.support.firsts.count
 
-        size₂ : length S ≡ 192
-        size₂ = t₂.size ∙ size₁
+        ly : length R.y ≡ 64
+        ly = g.support.seconds.count
 
-        -- the row of each string is written only when it is meant
-        end-x : row S 0 ≡ row R₁ 0
-        end-x = let s = size₁ in let f = fits in same_row R₁ 0 S t₂.size (omega arith)
-            (λ k h. t₂.kept (64 * 0 + k) (λ i l e. omega arith) (λ i l e. omega arith))
+        lz : length R.z ≡ 64
+        lz = g.support.thirds.count
 
-        start-y : row R₁ 1 ≡ row R₀ 1
-        start-y = let s = size₀ in let v = up in same_row R₀ 1 R₁ t₁.size (omega arith)
-            (λ k h. t₁.kept (64 * 1 + k) (λ i l e. omega arith) (λ i l e. omega arith))
+        lengths-of : (u : List ℕ) (w : ℕ) → length u ≡ 64 → word (with u w) 0 ≡ bit_or (word u 0) w
+        lengths-of u w l = get_or-set_same u 0 (bit_or (word u 0) w) 0 (omega arith)
 
-        j₁ : Placed (row R₀ 0) last T (64 * z + last) (64 * x + last) (p - last) (row R₁ 0)
-        j₁ = let v = up in placed R₀ last T (64 * z + last) (64 * x + last) (p - last) R₁ 0 last (omega arith) (omega arith) t₁.first
-            (λ k h f. t₁.kept (64 * 0 + k) (λ i l e. f i l (omega arith)) (λ i l e. omega arith))
+        places-of : (u : List ℕ) (w i : ℕ) → word (with u w) (suc i) ≡ word u (suc i)
+        places-of u w i = get_or-set_other u 0 (suc i) (bit_or (word u 0) w) 0 (omega arith)
 
-        j₂ : Placed (row R₁ 1) 0 T (64 * z + p) (64 * y) top (row S 1)
-        j₂ = let f = fits in placed R₁ 64 T (64 * z + p) (64 * y) top S 1 0 (omega arith) (omega arith) t₂.first
-            (λ k h f. t₂.kept (64 * 1 + k) (λ i l e. f i l (omega arith)) (λ i l e. omega arith))
-
-        j₃ : Placed (row R₀ 2) last T (64 * z + last) (64 * x + last) (p - last) (row R₁ 2)
-        j₃ = let v = up in placed R₀ (128 + last) T (64 * z + last) (64 * x + last) (p - last) R₁ 2 last (omega arith) (omega arith) t₁.second
-            (λ k h f. t₁.kept (64 * 2 + k) (λ i l e. omega arith) (λ i l e. f i l (omega arith)))
-
-        j₄ : Placed (row R₁ 2) p T (64 * z + p) (64 * y) top (row S 2)
-        j₄ = let f = fits in placed R₁ (128 + p) T (64 * z + p) (64 * y) top S 2 p (omega arith) (omega arith) t₂.second
-            (λ k h f. t₂.kept (64 * 2 + k) (λ i l e. omega arith) (λ i l e. f i l (omega arith)))
-
-        place-x : (i : ℕ) → word (row S 0) (suc i) ≡ bit_or (word a (suc i)) (word (row R 0) (suc i))
-        place-x i = ap (λ (v : List ℕ). word v (suc i)) end-x ∙ go (ltb i last) (ltb i p) refl refl
+        place-x : (i : ℕ) → word S.x (suc i) ≡ bit_or (word R.x (suc i)) (word a (suc i))
+        place-x i = go (ltb i last) (ltb i p) refl refl
           where
-            old : word (row R₀ 0) (suc i) ≡ word (row R 0) (suc i)
-            old = long.places 0 (omega arith) i
+            old : word (with R.x one) (suc i) ≡ word R.x (suc i)
+            old = places-of R.x one i
 
-            go : (s t : Bool) → ltb i last ≡ s → ltb i p ≡ t → word (row R₁ 0) (suc i) ≡ bit_or (word a (suc i)) (word (row R 0) (suc i))
+            go : (s t : Bool) → ltb i last ≡ s → ltb i p ≡ t → word S.x (suc i) ≡ bit_or (word R.x (suc i)) (word a (suc i))
             go true t q k =
                 let l = ltb-true i last q in
                 let v = up in
-                j₁.before i l ∙ old ∙ sym (or_self (word (row R 0) (suc i)))
-                ∙ ap (λ (n : ℕ). bit_or n (word (row R 0) (suc i))) (g.first i l ∙ sym (in_a i (omega arith)))
+                t₁.before i l ∙ old ∙ sym (or_self (word R.x (suc i))) ∙ ap (bit_or (word R.x (suc i))) (g.first i l ∙ sym (in_a i (omega arith)))
             go false true q k =
                 let l = ltb-true i p k in
-                between (row R₀ 0) (row R₁ 0) j₁ i (ltb-false i last q) l ∙ ap₂ bit_or (sym (in_a i l)) old
+                between (with R.x one) S.x t₁ i (ltb-false i last q) l ∙ ap₂ bit_or old (sym (in_a i l))
             go false false q k =
                 let l = ltb-false i p k in
                 let v = up in
-                j₁.after i (omega arith) ∙ old ∙ sym (or_zero_l (word (row R 0) (suc i)))
-                ∙ ap (λ (n : ℕ). bit_or n (word (row R 0) (suc i))) (sym (places-gone (2 ^ p) p (λ n. word r (suc n)) small i l))
+                t₁.after i (omega arith) ∙ old ∙ sym (or_zero_r (word R.x (suc i)))
+                ∙ ap (bit_or (word R.x (suc i))) (sym (places-gone (2 ^ p) p (λ n. word r (suc n)) small i l))
 
-        place-y : (i : ℕ) → word (row S 1) (suc i) ≡ bit_or (word b (suc i)) (word (row R 1) (suc i))
+        place-y : (i : ℕ) → word S.y (suc i) ≡ bit_or (word R.y (suc i)) (word b (suc i))
         place-y i = go (ltb i top) refl
           where
-            old : word (row R₁ 1) (suc i) ≡ word (row R 1) (suc i)
-            old = ap (λ (v : List ℕ). word v (suc i)) start-y ∙ long.places 1 (omega arith) i
+            old : word (with R.y ok) (suc i) ≡ word R.y (suc i)
+            old = places-of R.y ok i
 
-            go : (t : Bool) → ltb i top ≡ t → word (row S 1) (suc i) ≡ bit_or (word b (suc i)) (word (row R 1) (suc i))
+            go : (t : Bool) → ltb i top ≡ t → word S.y (suc i) ≡ bit_or (word R.y (suc i)) (word b (suc i))
             go true q =
                 let l = ltb-true i top q in
                 let f = fits in
                 let e : 0 + i ≡ i = omega arith in
-                ap (λ (n : ℕ). word (row S 1) (suc n)) (sym e) ∙ j₂.done i l
-                ∙ ap₂ bit_or (sym (places-kept ok top (λ n. word r (suc (p + n))) (omega arith) i l ∙ r-ended T x y z p s₃ small allowed bd i (omega arith)))
-                (ap (λ (n : ℕ). word (row R₁ 1) (suc n)) e ∙ old)
+                ap (λ (n : ℕ). word S.y (suc n)) (sym e) ∙ t₂.done i l
+                ∙ ap₂ bit_or (ap (λ (n : ℕ). word (with R.y ok) (suc n)) e ∙ old)
+                (sym (places-kept ok top (λ n. word r (suc (p + n))) (omega arith) i l ∙ r-ended T x y z p s₃ small allowed bd i (omega arith)))
             go false q =
                 let l = ltb-false i top q in
                 let f = fits in
-                j₂.after i (omega arith) ∙ old ∙ sym (or_zero_l (word (row R 1) (suc i)))
-                ∙ ap (λ (n : ℕ). bit_or n (word (row R 1) (suc i))) (sym (places-gone ok top (λ n. word r (suc (p + n))) (omega arith) i l))
+                t₂.after i (omega arith) ∙ old ∙ sym (or_zero_r (word R.y (suc i)))
+                ∙ ap (bit_or (word R.y (suc i))) (sym (places-gone ok top (λ n. word r (suc (p + n))) (omega arith) i l))
 
-        place-z : (i : ℕ) → word (row S 2) (suc i) ≡ bit_or (word c (suc i)) (word (row R 2) (suc i))
+        place-z : (i : ℕ) → word S.z (suc i) ≡ bit_or (word R.z (suc i)) (word c (suc i))
         place-z i = go (ltb i last) (ltb i p) (ltb i (p + top)) refl refl refl
           where
-            old : word (row R₀ 2) (suc i) ≡ word (row R 2) (suc i)
-            old = long.places 2 (omega arith) i
+            old : word (with R.z okz) (suc i) ≡ word R.z (suc i)
+            old = places-of R.z okz i
 
-            go : (s t u : Bool) → ltb i last ≡ s → ltb i p ≡ t → ltb i (p + top) ≡ u → word (row S 2) (suc i) ≡ bit_or (word c (suc i)) (word (row R 2) (suc i))
+            go : (s t u : Bool) → ltb i last ≡ s → ltb i p ≡ t → ltb i (p + top) ≡ u → word S.z (suc i) ≡ bit_or (word R.z (suc i)) (word c (suc i))
             go true t u q k d =
                 let l = ltb-true i last q in
                 let v = up in
-                j₄.before i (omega arith) ∙ j₃.before i l ∙ old ∙ sym (g.third i l)
-                ∙ ap (λ (n : ℕ). bit_or n (word (row R 2) (suc i))) (sym (in_c i (omega arith)))
+                t₄.before i (omega arith) ∙ t₃.before i l ∙ old ∙ sym (g.third i l) ∙ ap (bit_or (word R.z (suc i))) (sym (in_c i (omega arith)))
             go false true u q k d =
                 let l = ltb-true i p k in
-                j₄.before i l ∙ between (row R₀ 2) (row R₁ 2) j₃ i (ltb-false i last q) l ∙ ap₂ bit_or (sym (in_c i l)) old
+                t₄.before i l ∙ between (with R.z okz) Z t₃ i (ltb-false i last q) l ∙ ap₂ bit_or old (sym (in_c i l))
             go false false true q k d =
                 let l = ltb-false i p k in
                 let n = ltb-true i (p + top) d in
                 let f = fits in
                 let v = up in
                 let e : p + (i - p) ≡ i = omega arith in
-                ap (λ (n : ℕ). word (row S 2) (suc n)) (sym e) ∙ j₄.done (i - p) (omega arith)
-                ∙ ap₂ bit_or
+                ap (λ (n : ℕ). word S.z (suc n)) (sym e) ∙ t₄.done (i - p) (omega arith)
+                ∙ ap₂ bit_or (ap (λ (n : ℕ). word Z (suc n)) e ∙ t₃.after i (omega arith) ∙ old)
                 (sym (r-ended T x y z p s₃ small allowed bd (i - p) (omega arith)) ∙ ap (λ (n : ℕ). word r (suc n)) e
                 ∙ sym (places-kept okz (p + top) (λ n. word r (suc n)) fits i n))
-                (ap (λ (n : ℕ). word (row R₁ 2) (suc n)) e ∙ j₃.after i (omega arith) ∙ old)
             go false false false q k d =
                 let l = ltb-false i p k in
                 let n = ltb-false i (p + top) d in
                 let v = up in
-                j₄.after i n ∙ j₃.after i (omega arith) ∙ old ∙ sym (or_zero_l (word (row R 2) (suc i)))
-                ∙ ap (λ (m : ℕ). bit_or m (word (row R 2) (suc i))) (sym (places-gone okz (p + top) (λ n. word r (suc n)) fits i n))
+                t₄.after i n ∙ t₃.after i (omega arith) ∙ old ∙ sym (or_zero_r (word R.z (suc i)))
+                ∙ ap (bit_or (word R.z (suc i))) (sym (places-gone okz (p + top) (λ n. word r (suc n)) fits i n))
 
-        row-x : row S 0 ≡ joined a (row R 0)
-        row-x = let s = size₂ in joined_is a (row R 0) (row S 0) (row-length S 0 (omega arith))
-            (ap (λ (v : List ℕ). word v 0) end-x ∙ j₁.first ∙ long.first ∙ ap (λ (n : ℕ). bit_or n (word (row R 0) 0))
-            (e₁ ∙ sym (places-first (2 ^ p) p (λ n. word r (suc n)) small)))
+        row-x : S.x ≡ joined a R.x
+        row-x = joined_is a R.x S.x (t₁.size ∙ length-set R.x 0 (bit_or (word R.x 0) one) ∙ lx)
+            (t₁.first ∙ lengths-of R.x one lx ∙ ap (bit_or (word R.x 0)) (e₁ ∙ sym (places-first (2 ^ p) p (λ n. word r (suc n)) small)))
             place-x
 
-        row-y : row S 1 ≡ joined b (row R 1)
-        row-y = let s = size₂ in let f = fits in joined_is b (row R 1) (row S 1) (row-length S 1 (omega arith))
-            (j₂.first ∙ ap (λ (v : List ℕ). word v 0) start-y ∙ long.second
-            ∙ ap (λ (n : ℕ). bit_or n (word (row R 1) 0)) (sym (places-first ok top (λ n. word r (suc (p + n))) (omega arith)))) place-y
+        row-y : S.y ≡ joined b R.y
+        row-y = let f = fits in joined_is b R.y S.y (t₂.size ∙ length-set R.y 0 (bit_or (word R.y 0) ok) ∙ ly)
+            (t₂.first ∙ lengths-of R.y ok ly ∙ ap (bit_or (word R.y 0)) (sym (places-first ok top (λ n. word r (suc (p + n))) (omega arith))))
+            place-y
 
-        row-z : row S 2 ≡ joined c (row R 2)
-        row-z = let s = size₂ in joined_is c (row R 2) (row S 2) (row-length S 2 (omega arith))
-            (j₄.first ∙ j₃.first ∙ long.third ∙ ap (λ (n : ℕ). bit_or n (word (row R 2) 0)) (sym (places-first okz (p + top) (λ n. word r (suc n)) fits)))
+        row-z : S.z ≡ joined c R.z
+        row-z = joined_is c R.z S.z (t₄.size ∙ t₃.size ∙ length-set R.z 0 (bit_or (word R.z 0) okz) ∙ lz)
+            (t₄.first ∙ t₃.first ∙ lengths-of R.z okz lz ∙ ap (bit_or (word R.z 0)) (sym (places-first okz (p + top) (λ n. word r (suc n)) fits)))
             place-z
 
         pub gather-more : Gathered T x y z (rest - 2 ^ p) p S
         gather-more = record {
-          size = size₂;
-          support = rw (row-x, row-y, row-z)
-              (outside-next (row T x) (row T y) (row T z) rest p low.here a b c (row R 0) (row R 1) (row R 2) parts g.support);
+          support = rw (row-x, row-y, row-z) (outside-next (row T x) (row T y) (row T z) rest p low.here a b c R.x R.y R.z parts g.support);
           ahead = λ q e. (later q e).1;
           allowed = λ q e. g.allowed q (later q e).0;
           meeting = λ q e. g.meeting q (later q e).0;
-          first = λ i l. place-x i ∙ ap (λ (n : ℕ). bit_or n (word (row R 0) (suc i))) (in_a i l) ∙ before i (ltb i last) refl;
+          first = λ i l. place-x i ∙ ap (bit_or (word R.x (suc i))) (in_a i l) ∙ before i (ltb i last) refl;
           ended = λ i l. let v = up in
-              place-x i ∙ ap₂ bit_or (places-gone (2 ^ p) p (λ n. word r (suc n)) small i l) (g.ended i (omega arith)) ∙ or_zero_l 0;
-          third = λ i l. let e = place-z i ∙ ap (λ (n : ℕ). bit_or n (word (row R 2) (suc i))) (in_c i l) in
-              ap (bit_or (begun i)) e ∙ or-again (begun i) (word (row R 2) (suc i)) ∙ sym e;
+              place-x i ∙ ap₂ bit_or (g.ended i (omega arith)) (places-gone (2 ^ p) p (λ n. word r (suc n)) small i l) ∙ or_zero_l 0;
+          third = λ i l. let e = place-z i ∙ ap (bit_or (word R.z (suc i))) (in_c i l) in
+              ap (λ (n : ℕ). bit_or n (begun i)) e ∙ or-again (word R.z (suc i)) (begun i) ∙ sym e;
         }
           where
-            before : (i : ℕ) (t : Bool) → ltb i last ≡ t → bit_or (begun i) (word (row R 0) (suc i)) ≡ begun i
-            before i true q = ap (bit_or (begun i)) (g.first i (ltb-true i last q)) ∙ or_self (begun i)
-            before i false q = ap (bit_or (begun i)) (g.ended i (ltb-false i last q)) ∙ or_zero_r (begun i)
+            before : (i : ℕ) (t : Bool) → ltb i last ≡ t → bit_or (word R.x (suc i)) (begun i) ≡ begun i
+            before i true q = ap (λ (n : ℕ). bit_or n (begun i)) (g.first i (ltb-true i last q)) ∙ or_self (begun i)
+            before i false q = ap (λ (n : ℕ). bit_or n (begun i)) (g.ended i (ltb-false i last q)) ∙ or_zero_l (begun i)
 
 -- ---- what `split` ensures
 
-module _ (T : List ℕ) (x y z last p : ℕ) (s₃ : Strings T x y z) (bd : Words T) (small : p < 64) (R : List ℕ) where
+module _ (T : List ℕ) (x y z last p : ℕ) (s₃ : Strings T x y z) (bd : Words T) (small : p < 64) (R : Rows) where
   pub split-empty : bit_and (word T (64 * z) / 2 ^ p) (word T (64 * y)) ≡ 0 → Advanced T x y z last p R last R
-  split-empty e = record { size = refl; more = λ rest low g. gather-empty T x y z last p s₃ bd small rest low R g e }
+  split-empty e = record { more = λ rest low g. gather-empty T x y z last p s₃ bd small rest low R g e }
 
   module _ (h : ℕ) (high : Highest (bit_and (word T (64 * z) / 2 ^ p) (word T (64 * y))) h) (m : ℕ) (met : Meets T (64 * z + p) (64 * y) h m) (mask : ℕ)
       (em : mask ≡ 2 ^ (m + 1) - 1) where
-    pub split-none : bit_and (bit_and (word T (64 * z) / 2 ^ p) (word T (64 * y))) mask ≡ 0 → Advanced T x y z last p R last R
-    split-none e = record { size = refl; more = λ rest low g. gather_none T x y z last p s₃ bd small rest low R g h high m met mask em e }
+    abbrev kept : ℕ
+    kept = bit_and (bit_and (word T (64 * z) / 2 ^ p) (word T (64 * y))) mask
 
-    pub split-some : (top : ℕ) → Highest (bit_and (bit_and (word T (64 * z) / 2 ^ p) (word T (64 * y))) mask) top → (one : ℕ) → one ≡ 2 ^ p → (R₀ R₁ S : List ℕ)
-        → Lengthened R one (bit_and (bit_and (word T (64 * z) / 2 ^ p) (word T (64 * y))) mask)
-        (bit_and (bit_and (word T (64 * z) / 2 ^ p) (word T (64 * y))) mask * 2 ^ p % 2 ^ 64) R₀
-        → Added R₀ last (128 + last) T (64 * z + last) (64 * x + last) (p - last) R₁ → Added R₁ 64 (128 + p) T (64 * z + p) (64 * y) top S
-        → Advanced T x y z last p R p S
-    split-some top longest one e R₀ R₁ S long t₁ t₂ = record {
-      size = t₂.size ∙ t₁.size ∙ long.size;
-      more = λ rest low g. gather-more T x y z last p s₃ bd small rest low R g h high m met mask em top longest one e R₀ R₁ S long t₁ t₂;
+    pub split-none : kept ≡ 0 → Advanced T x y z last p R last R
+    split-none e = record { more = λ rest low g. gather_none T x y z last p s₃ bd small rest low R g h high m met mask em e }
+
+    pub split-some : (top : ℕ) → Highest kept top → (one : ℕ) → one ≡ 2 ^ p → (X Y Z₁ Z : List ℕ)
+        → Added (set R.x 0 (bit_or (word R.x 0) one)) last T (64 * z + last) (64 * x + last) (p - last) X
+        → Added (set R.z 0 (bit_or (word R.z 0) (kept * 2 ^ p % 2 ^ 64))) last T (64 * z + last) (64 * x + last) (p - last) Z₁
+        → Added (set R.y 0 (bit_or (word R.y 0) kept)) 0 T (64 * z + p) (64 * y) top Y
+        → Added Z₁ p T (64 * z + p) (64 * y) top Z
+        → Advanced T x y z last p R p (record { x = X; y = Y; z = Z })
+    split-some top longest one e X Y Z₁ Z t₁ t₃ t₂ t₄ = record {
+      more = λ rest low g. gather-more T x y z last p s₃ bd small rest low R g h high m met mask em top longest one e Z₁ (record { x = X; y = Y; z = Z })
+          t₁ t₂ t₃ t₄;
     }
 
 -- ---- the turn of `gather`
 
-pub gather-turn : (T : List ℕ) (x y z last p : ℕ) (R : List ℕ) (next : ℕ) (S : List ℕ) (rest one : ℕ) → one ≡ 2 ^ p → Advanced T x y z last p R next S
+pub gather-turn : (T : List ℕ) (x y z last p : ℕ) (R : Rows) (next : ℕ) (S : Rows) (rest one : ℕ) → one ≡ 2 ^ p → Advanced T x y z last p R next S
     → Lowest rest p
     → Gathered T x y z rest last R → Gathered T x y z (rest - one) next S
 gather-turn T x y z last p R next S rest one e t low g = rw e (t.more rest low g)

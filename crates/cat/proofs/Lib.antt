@@ -4,7 +4,5 @@ pub mod ThreeRows
 pub mod CatLaws
 pub mod SplitRow
 pub mod SplitLaws
-pub mod PlaceLoops
-pub mod RowLoops
 pub mod GatherLaws
 pub mod StepLaws

@@ -1,5 +1,6 @@
 -- Cat in a table, for one length p of the first string: the parts of the whole row that are left; and the step in place where that is the only length.
 -- Assumes nothing.
+use Rattle.std.specs.Prelude.{Option, Some, None}
 use mathlib.Core.Path.{◌≡◌, refl, sym, ap, ap₂, subst, ◌∙◌}
 use mathlib.Core.Logic.{◌≢◌, ⊎_elim}
 use mathlib.Core.Bool.{Bool, true, false, ◌||◌, false≢true}
@@ -27,7 +28,7 @@ use Rattle.inplace.proofs.Tables.{row_first, row-place, highest-most, highest-on
 use Rattle.inplace.proofs.Sides.{Side, side-of, changed-moved, side-ended, side_cut, side-flag, side-plain}
 use Rattle.inplace.proofs.Shapes.{three-left, three-none}
 use Rattle.inplace.specs.InPlace.{InPlace}
-use Rattle.inplace.specs.declared.Change.{Change}
+use Rattle.inplace.specs.declared.Changed.{Changed as Answer}
 use Rattle.cat.proofs.SplitRow.{whole_row, whole-first, whole-begun, whole-ended, whole, whole_words, split-none, split-some, parts-narrowed, moved-short}
 use Rattle.inplace.specs.InTable.{Tidy, Out, Ended, Ready, Apart, Changed, both, Meet, Shortened, Flag, zeros, Meets}
 use Rattle.cat.specs.Splits.{Three, Split, Supported}
@@ -254,17 +255,17 @@ module _ (T : List ℕ) (x y z p : ℕ) (s₃ : Strings T x y z) (small : p < 64
 
     -- ---- nothing is left
 
-    abbrev Step : List ℕ → Change → Type 0
+    abbrev Step : List ℕ → Option Answer → Type 0
     Step U c = InPlace [] (cat 0 1 2) (x ∷ y ∷ z ∷ []) [] T U c
 
-    cat-nothing : (U : List ℕ) → length U ≡ length T → ((k : ℕ) → Out x k → Out y k → Out z k → word U k ≡ word T k) → zeros ≡ trimmed r → (c : Change)
-        → c.left ≡ false → Step U c
+    cat-nothing : (U : List ℕ) → length U ≡ length T → ((k : ℕ) → Out x k → Out y k → Out z k → word U k ≡ word T k) → zeros ≡ trimmed r
+        → Step U None
     cat-nothing U lU others e = three-none (cat 0 1 2) x y z T U lU others
         (parts-narrowed (row T x) (row T y) (row T z) p small (row_words T bd x) (row_words T bd y) (row_words T bd z) allowed-x lx ly lz only_x zeros zeros
         zeros
         (none_supported (Split (row T x) (row T y) (row T z) p) (none-split e) _ _ _ refl refl refl))
 
-    pub cat-empty : cand ≡ 0 → (c : Change) → c.left ≡ false → Step T c
+    pub cat-empty : cand ≡ 0 → Step T None
     cat-empty e = cat-nothing T refl (λ k f g h. refl) (no_lengths e)
 
     -- ---- the first p places
@@ -276,7 +277,7 @@ module _ (T : List ℕ) (x y z p : ℕ) (s₃ : Strings T x y z) (small : p < 64
           let l = m1.small in
           m1.done.kept k (λ i l e. g (suc i) (omega arith) (omega arith)) (λ i l e. f (suc i) (omega arith) (omega arith))
 
-      pub cat-short : m₁ < p → (c : Change) → c.left ≡ false → Step T₁ c
+      pub cat-short : m₁ < p → Step T₁ None
       cat-short l =
           let s = small in
           cat-nothing T₁ m1.done.size (λ k f g h. outside₁ k f h)
@@ -440,7 +441,7 @@ module _ (T : List ℕ) (x y z p : ℕ) (s₃ : Strings T x y z) (small : p < 64
               of-ok : (b : ℕ) → bit (ok mask) b ≡ true → (bit (word (row T z) 0) (p + b) ≡ true) × (bit (word (row T y) 0) b ≡ true)
               of-ok b e = of-cand b (of-and-bit cand mask b e).0
 
-              pub cat-none : (ok mask) ≡ 0 → (c : Change) → c.left ≡ false → Step T₂ c
+              pub cat-none : (ok mask) ≡ 0 → Step T₂ None
               cat-none e = cat-nothing T₂ size₂ outside₂ (none_left h high begun₁ m₂ met₂ mask em e)
 
               pub cat-ready-y : (ok mask) ≢ 0 → Ready T₂ y (ok mask)
@@ -542,8 +543,8 @@ module _ (T : List ℕ) (x y z p : ℕ) (s₃ : Strings T x y z) (small : p < 64
                   fill₂ : (i : ℕ) → i < p + m₂ → 0 < word r (suc i)
                   fill₂ = (reach h high begun₁ m₂ met₂).filled
 
-                  pub cat-some : (d cy cz : Bool) → cy ≡ (b₂ || f) → d ≡ (a₁ || a₂) → cz ≡ (d || g) → Step U (record { left = true; x = b₁; y = cy; z = cz })
-                  cat-some d cy cz ey ed ez = three-left (cat 0 1 2) x y z T U size₃
+                  pub cat-some : Step U (Some (record { x = b₁; y = b₂ || f; z = (a₁ || a₂) || g }))
+                  cat-some = three-left (cat 0 1 2) x y z T U size₃
                       (λ k o₁ o₂ o₃. only_out T₃ z U sz.only k o₃ ∙ only_out T₂ y T₃ sy.only k o₂ ∙ outside₂ k o₁ o₂ o₃)
                       (parts-narrowed (row T x) (row T y) (row T z) p small (row_words T bd x) (row_words T bd y) (row_words T bd z) allowed-x lx ly lz only_x
                       (row U x) (row U y) (row U z)
@@ -562,13 +563,12 @@ module _ (T : List ℕ) (x y z p : ℕ) (s₃ : Strings T x y z) (small : p < 64
                         gone = cut-y.gone;
                       })
                       (parts-tidy h high begun₁ m₂ met₂ mask em sy.top sy.longest (row U x) (row U y) (row U z) cut-x window_y₂ cut-z)
-                      b₁ cy cz
+                      b₁ (b₂ || f) ((a₁ || a₂) || g)
                       (subst (λ (v : List ℕ). Flag (row T x) v b₁) (sym same-x) (side-plain (row T x) r p (row T₂ x) b₁ s₃.tidy-x
                       (let e = top-x in omega arith) side-x))
-                      (subst (Flag (row T y) (row U y)) (sym ey) (side-flag (row T y) (row T₂ y) m₂ (row T₂ y) b₂ s₃.tidy-y small_y₂ side-y (ok mask)
+                      (side-flag (row T y) (row T₂ y) m₂ (row T₂ y) b₂ s₃.tidy-y small_y₂ side-y (ok mask)
                       sy.top (row U y) (let b = below₂ in omega arith) cut-y f
-                      (λ e. same-y ∙ ap (λ (L : List ℕ). row L y) (sy.same e)) (λ e k. sy.less e (sym (row_first T₂ y) ∙ k))))
-                      (subst (Flag (row T z) (row U z)) (sym (ez ∙ ap (λ (b : Bool). b || g) ed))
+                      (λ e. same-y ∙ ap (λ (L : List ℕ). row L y) (sy.same e)) (λ e k. sy.less e (sym (row_first T₂ y) ∙ k)))
                       (side-flag (row T z) r (p + m₂) (row T₂ z) (a₁ || a₂) s₃.tidy-z small_z₂ side-z (okz mask) (p + sy.top) (row U z) below₂ cut_z₁ g
                       (λ e. ap (λ (L : List ℕ). row L z) (sz.same e) ∙ same-z) (λ e k. sz.less e
-                      (sym (row_first T₃ z) ∙ ap (λ (v : List ℕ). word v 0) same-z ∙ k))))
+                      (sym (row_first T₃ z) ∙ ap (λ (v : List ℕ). word v 0) same-z ∙ k)))

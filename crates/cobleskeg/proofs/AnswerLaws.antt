@@ -1,102 +1,111 @@
--- What reading a file gives, and what Read and Unpack answer and leave, by what looking the file over gave. Assumes nothing.
-use mathlib.Core.Path.{◌≡◌, sym, ap, subst, ◌∙◌}
+-- What reading a file gives, what a call leaves in what was lent to it, and what Read and Unpack answer. Assumes nothing.
+use mathlib.Core.Path.{◌≡◌, sym, ap, ap₂, ◌∙◌}
 use mathlib.Core.Logic.{◌≢◌}
 use mathlib.Core.List.{List, map}
 use Prim.Native.Nat.{ℕ, ◌+◌, ◌*◌}
 use lib.ListN.{length, take}
 use borrow.Author.Tests.{eq-eqb, ne_eqb}
+use Rattle.std.specs.Prelude.{Ok, Err}
 use Rattle.model.specs.Constraints.{width}
-use Rattle.model.specs.Replies.{refused, answered, require, and_then, leaves}
+use Rattle.model.specs.Replies.{Reply, refused, answered, require, and_then, leaves}
 use Rattle.model.specs.Layout.{little}
 use Rattle.model.specs.Reading.{pieces, reading}
 use Rattle.model.specs.Operations.{Header, read, require_length, unpack}
-use Rattle.layout.specs.declared.Parts.{Parts}
-use Rattle.layout.specs.declared.Layout.{Layout}
-use Rattle.layout.specs.declared.Layout.TheVariants.{Refused, Laid}
-use Rattle.layout.specs.Replied.{parts_of, reply_of, PartsFit, Fitted}
-use Rattle.format.specs.Accepting.{accepted, content_of, problem_in, table_in, Usable}
+use Rattle.laws.proofs.ReadingLaws.{Sound}
+use Rattle.refusals.specs.declared.Refusal.{Refusal}
+use Rattle.refusals.specs.Numbers.{number}
+use Rattle.format.specs.declared.problem.Problem.{Problem}
+use Rattle.format.specs.Accepting.{accepted, content_of}
+use Rattle.format.specs.Problems.{the_problem, the_table, parts_reply}
 use Rattle.format.proofs.AcceptLaws.{reading-refused}
-use Rattle.format.proofs.ContentLaws.{accepted-usable, accepted-reading, usable-counts, usable-width, usable-bytes, usable-table}
-use Rattle.cobleskeg.specs.declared.ReadAnswer.TheVariants as ofRead
-use Rattle.cobleskeg.specs.declared.UnpackAnswer.{UnpackAnswer}
-use Rattle.cobleskeg.specs.declared.UnpackAnswer.TheVariants as ofUnpack
-use Rattle.cobleskeg.specs.Answers.{header_of, read_reply, unpack_reply}
+use Rattle.format.proofs.ContentLaws.{Counts, accepted-reading, usable-counts, usable-sound, usable-width, usable-bytes, usable-table}
+use Rattle.cobleskeg.specs.Answers.{header_of, unpack_reply}
 
-module _ (file : List ℕ) (l : Layout) (told : (reply_of file l ≡ accepted file) × Fitted file l) where
-  -- ---- what reading the file gives
+-- ---- what a call leaves
 
-  pub early-reading : (n : ℕ) → l ≡ Refused n → reading file ≡ refused n
-  unfolding reply_of
-  early-reading n q = reading-refused file n (ap (reply_of file) (sym q) ∙ told.0)
+module _ {A : Type 0} (view : A → List ℕ) (R : Reply A) where
+  -- a refusal leaves what was lent as it was
+  pub stays : (n : ℕ) (T : List ℕ) → R ≡ refused n → T ≡ leaves view R T
+  unfolding leaves
+  stays n T e = ap (λ r. leaves view r T) (sym e)
 
-  module _ (p : Parts) (q : l ≡ Laid p) where
-    parts : answered (parts_of file p) ≡ accepted file
-    unfolding reply_of
-    parts = ap (reply_of file) (sym q) ∙ told.0
+  -- an answer leaves what it shows
+  pub shows : (a : A) (T : List ℕ) → answered a ≡ R → view a ≡ leaves view R T
+  unfolding leaves
+  shows a T e = ap (λ r. leaves view r T) e
 
-    pub fit : PartsFit file p
-    fit = subst (Fitted file) q told.1
+-- ---- what looking the file over told
 
-    pub laid-reading : reading file ≡ answered (content_of file p)
-    laid-reading = accepted-reading file p parts
+-- reading the file refuses it
+pub refuses : (file : List ℕ) (e : Refusal) → parts_reply (Err e) ≡ accepted file → reading file ≡ refused (number e)
+unfolding parts_reply
+refuses file e told = reading-refused file (number e) told
 
-    pub laid-usable : Usable file p
-    laid-usable = accepted-usable file p parts fit
+-- reading the file gives this problem
+pub record Accepts (file : List ℕ) (p : Problem) : Type 0 where
+  pub reads : reading file ≡ answered (content_of p.file.now p.parts)
 
-  -- ---- Read
+pub accepts : {file : List ℕ} {p : Problem} → parts_reply (Ok p) ≡ accepted file → p.file.now ≡ file → Accepts file p
+unfolding parts_reply
+accepts {file = file} {p = p} told e = record {
+  reads = ap reading (sym e) ∙ accepted-reading p.file.now p.parts (told ∙ ap accepted (sym e));
+}
 
-  pub read-early : (n : ℕ) → l ≡ Refused n → read_reply (ofRead.Refused n) ≡ read (reading file)
-  unfolding read_reply read and_then
-  read-early n q = ap read (sym (early-reading n q))
+-- ---- a file that is refused
 
-  pub read-counts : (p : Parts) → l ≡ Laid p
-      → read_reply (ofRead.Counts (record { symbols = p.k; strings = p.s; numbers = p.t; automata = p.d; constraints = p.c })) ≡ read (reading file)
-  unfolding read_reply header_of read and_then
-  read-counts p q =
-      let c = usable-counts file p (laid-usable p q) in
-      let same : ◌≡◌ {A = Header} (record { symbols = p.k; strings = p.s; numbers = p.t; automata = p.d; constraints = p.c }) (record {
-        symbols = (problem_in file p).symbols;
-        strings = (problem_in file p).strings;
-        numbers = (problem_in file p).numbers;
-        automata = length (problem_in file p).automata;
-        constraints = length (problem_in file p).constraints;
+module _ (file : List ℕ) (n : ℕ) (e : reading file ≡ refused n) where
+  pub read-early : read (reading file) ≡ refused n
+  unfolding read and_then
+  read-early = ap read e
+
+  pub unpack-early : (T : List ℕ) → unpack (reading file) T ≡ refused n
+  unfolding unpack and_then
+  unpack-early T = ap (λ r. unpack r T) e
+
+-- ---- a file that is accepted
+
+-- the problem has the counts of the parts
+pub counts : (p : Problem) → Counts p.file.now p.parts
+counts p = usable-counts p.file.now p.parts p.usable
+
+pub sound : (p : Problem) → Sound (content_of p.file.now p.parts)
+sound p = usable-sound p.file.now p.parts p.usable p.bytes
+
+module _ {file : List ℕ} {p : Problem} (a : Accepts file p) where
+  pub read-counts : answered (header_of (record { symbols = p.parts.k; strings = p.parts.s; numbers = p.parts.t; automata = p.parts.d; constraints = p.parts.c }))
+      ≡ read (reading file)
+  unfolding header_of read and_then
+  read-counts =
+      let c = counts p in
+      let same : ◌≡◌ {A = Header} (record { symbols = p.parts.k; strings = p.parts.s; numbers = p.parts.t; automata = p.parts.d; constraints = p.parts.c }) (record {
+        symbols = (the_problem p).symbols;
+        strings = (the_problem p).strings;
+        numbers = (the_problem p).numbers;
+        automata = length (the_problem p).automata;
+        constraints = length (the_problem p).constraints;
       }) = cc (c.symbols, c.strings, c.numbers, c.automata, c.constraints) in
-      ap answered same ∙ ap read (sym (laid-reading p q))
-
-  -- ---- Unpack
+      ap answered same ∙ ap read (sym a.reads)
 
   module _ (T : List ℕ) where
-    -- the answer, and the lent table afterwards
-    abbrev Answers : List ℕ → UnpackAnswer → Type 0
-    Answers U a = (unpack_reply U a ≡ unpack (reading file) T) × (U ≡ leaves (λ T. T) (unpack (reading file) T) T)
+    on-content : unpack (reading file) T ≡ unpack (answered (content_of p.file.now p.parts)) T
+    on-content = ap (λ r. unpack r T) a.reads
 
-    unpack-leaves : (n : ℕ) → unpack (reading file) T ≡ refused n → Answers T (ofUnpack.Refused n)
-    unfolding unpack_reply leaves
-    unpack-leaves n e = (sym e, ap (λ r. leaves (λ T. T) r T) (sym e))
+    pub unpack-nine : length T ≢ width (the_problem p) → unpack (reading file) T ≡ refused 9
+    unfolding unpack and_then require_length require
+    unpack-nine h = on-content ∙ rw (ne_eqb (length T) (width (the_problem p)) h)
 
-    pub unpack-early : (n : ℕ) → l ≡ Refused n → Answers T (ofUnpack.Refused n)
-    unfolding unpack and_then
-    unpack-early n q = unpack-leaves n (ap (λ r. unpack r T) (early-reading n q))
+    module _ (h : length T ≡ width (the_problem p)) (bs : List ℕ) (is : bs ≡ take p.parts.constraints_at p.file.now) where
+      long : length T ≡ 64 * p.parts.s + p.parts.t
+      long = h ∙ usable-width p.file.now p.parts p.usable
 
-    module _ (p : Parts) (q : l ≡ Laid p) where
-      words_are : width (problem_in file p) ≡ 64 * p.s + p.t
-      words_are = usable-width file p (laid-usable p q)
+      -- what unpacking asks
+      pub table-there : length bs ≡ 8 * length T
+      table-there = ap length is ∙ usable-bytes p.file.now p.parts p.usable ∙ ap (λ (n : ℕ). 8 * n) (sym long)
 
-      on-parts : unpack (reading file) T ≡ unpack (answered (content_of file p)) T
-      on-parts = ap (λ r. unpack r T) (laid-reading p q)
-
-      pub unpack-nine : length T ≢ 64 * p.s + p.t → Answers T (ofUnpack.Refused 9)
+      pub unpack-whole : (U : List ℕ) → U ≡ map little (pieces (length T) 8 bs)
+          → (unpack_reply U (Ok (tt {0})) ≡ unpack (reading file) T) × (U ≡ leaves (λ T. T) (unpack (reading file) T) T)
       unfolding unpack and_then require_length require
-      unpack-nine h = unpack-leaves 9 (on-parts ∙ rw (ne_eqb (length T) (width (problem_in file p)) (λ e. h (e ∙ words_are))))
-
-      module _ (h : length T ≡ 64 * p.s + p.t) where
-        -- what unpacking asks
-        pub table-there : length (take p.constraints_at file) ≡ 8 * length T
-        table-there = usable-bytes file p (laid-usable p q) ∙ ap (λ (n : ℕ). 8 * n) (sym h)
-
-        pub unpack-whole : (U : List ℕ) → U ≡ map little (pieces (length T) 8 (take p.constraints_at file)) → Answers U ofUnpack.Unpacked
-        unfolding unpack and_then require_length require unpack_reply leaves
-        unpack-whole U u =
-            let table : U ≡ table_in file p = u ∙ ap (λ (n : ℕ). map little (pieces n 8 (take p.constraints_at file))) h ∙ sym (usable-table file p (laid-usable p q)) in
-            let same : answered U ≡ unpack (reading file) T = sym (on-parts ∙ rw (eq-eqb (length T) (width (problem_in file p)) (h ∙ sym words_are)) (ap answered (sym table))) in
-            (same, ap (λ r. leaves (λ T. T) r T) same)
+      unpack-whole U u =
+          let table : U ≡ the_table p = u ∙ ap₂ (λ (n : ℕ) (l : List ℕ). map little (pieces n 8 l)) long is ∙ sym (usable-table p.file.now p.parts p.usable) in
+          let same : answered U ≡ unpack (reading file) T = sym (on-content ∙ rw (eq-eqb (length T) (width (the_problem p)) h) (ap answered (sym table))) in
+          (same, shows (λ T. T) (unpack (reading file) T) U T same)

@@ -1,10 +1,10 @@
 -- 0 is returned just where the operation is accepted: no refusal has that number. Assumes nothing.
-use mathlib.Core.Path.{◌≡◌, refl, sym, subst}
+use mathlib.Core.Path.{◌≡◌, refl, subst}
 use mathlib.Core.Bool.{Bool, true, false}
 use mathlib.Core.List.{List}
 use mathlib.Core.Option.{Option, none, some}
-use Prim.Native.Nat.{ℕ, zero, suc}
-use lib.Dec.{T as Holds, eqb, ltb, eqb-suc-zero}
+use Prim.Native.Nat.{ℕ}
+use lib.Dec.{T as Holds, ltb}
 use Rattle.model.specs.Replies.{Reply, refused, answered, require, obtain, and_then}
 use Rattle.model.specs.Layout.{layout}
 use Rattle.model.specs.Reading.{Reading, problem_of, reading}
@@ -14,7 +14,6 @@ use Rattle.model.specs.Queue.{settle_by_index}
 use Rattle.model.specs.Pattern.{Pattern}
 use Rattle.model.specs.PatternText.{Parsed, bad, parsed}
 use Rattle.model.specs.Compile.{when_parsed, compiled_bytes, compile}
-use Rattle.laws.proofs.ReplyLaws.{refused≢answered}
 use Rattle.cobleskeg_c.specs.Numbers.{refusal}
 
 -- a refusal has a number above 0
@@ -32,14 +31,6 @@ module _ {A : Type 0} where
   unfolding refusal
   zero-accepts (refused n) (by_number h) e = absurd (subst (λ (m : ℕ). Holds (ltb 0 m)) e h)
   zero-accepts (answered a) k e = (a, refl)
-
-  pub above_zero : (r : Reply A) → Numbered r → (n : ℕ) → r ≡ refused n → eqb n 0 ≡ false
-  above_zero r (by_number {n = m} h) n e = let q : m ≡ n = cc in subst (λ (i : ℕ). eqb i 0 ≡ false) q (positive m h)
-    where
-      positive : (m : ℕ) → Holds (ltb 0 m) → eqb m 0 ≡ false
-      positive zero h = absurd h
-      positive (suc m) h = eqb-suc-zero m
-  above_zero r by_answer n e = absurd (refused≢answered (sym e))
 
 module _ {A B : Type 0} where
   pub obtain-numbered : (o : Option A) (n : ℕ) (f : A → Reply B) → Holds (ltb 0 n) → ((a : A) → Numbered (f a)) → Numbered (obtain o n f)

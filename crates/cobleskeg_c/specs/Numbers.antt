@@ -1,11 +1,11 @@
 -- The numbers that stand for answers in the C interface. Assumes nothing.
-use Rattle.std.specs.Prelude.{◌≡◌, Bool, cond, List, ℕ, eqb}
+use Rattle.std.specs.Prelude.{◌≡◌, Bool, cond, List, ℕ, eqb, Result, Ok, Err}
 use Rattle.model.specs.Tree.{Outcome, found, none, spent}
 use Rattle.model.specs.Replies.{Reply, refused, answered}
 use Rattle.model.specs.Reading.{reading}
 use Rattle.model.specs.Operations.{Settlement, settle}
-use Rattle.cobleskeg.specs.declared.SearchAnswer.{SearchAnswer}
-use Rattle.cobleskeg.specs.declared.SearchAnswer.TheVariants.{Refused, Found, None, Spent}
+use Rattle.search.specs.declared.Outcome as ended
+use Rattle.search.specs.declared.Outcome.TheVariants.{Found, None, Spent}
 
 -- the paper's number of the refusal, and 0 for none
 unfoldable pub refusal : {A : Type 0} → Reply A → ℕ
@@ -36,5 +36,5 @@ outcome_nodes (none n) = n
 outcome_nodes (spent n) = n
 
 -- the answer that the number returned and the two results of a search stand for
-unfoldable pub search_answer : ℕ → ℕ → ℕ → SearchAnswer
-search_answer r outcome nodes = cond (eqb r 0) (cond (eqb outcome 1) (Found nodes) (cond (eqb outcome 2) (None nodes) (Spent nodes))) (Refused r)
+unfoldable pub search_answer : ℕ → ℕ → ℕ → Result ended.Outcome ℕ
+search_answer r outcome nodes = cond (eqb r 0) (Ok (cond (eqb outcome 1) (Found nodes) (cond (eqb outcome 2) (None nodes) (Spent nodes)))) (Err r)

@@ -1,6 +1,8 @@
 // The public entries for programs in C: numbers, and buffers as a pointer and a count. include/cobleskeg.h declares each. A function returns the number of
 // the refusal, or 0, and writes what the entry answers through references; a refusal writes nothing there either.
 //
+// Each entry takes its `Result` apart by itself, since a caller in C gets a number and references.
+//
 // Assumes nothing.
 
 #![tactic(auto)]
@@ -13,14 +15,12 @@ ghost use Rattle.model.specs.StepIndex as model;
 ghost use Rattle.model.specs.Queue.{Queued, settle_by_index};
 ghost use Rattle.model.specs.Claim.{calls};
 ghost use Rattle.model.specs.Compile.{Compiled, compile, AcceptsLanguage};
+ghost use Rattle.search.specs.Outcomes.{outcome_of};
 ghost use Rattle.cobleskeg.specs.Claims.{call_of, call_by_index, SearchHolds, ListHolds, IndexesRefused};
 ghost use Rattle.cobleskeg_c.specs.Numbers.{refusal, writes, bit_of, SettledAlike, outcome_number, outcome_nodes, search_answer};
 ghost use Rattle.cobleskeg_c.specs.Version.{version};
 
-use cobleskeg::{
-    CompileAnswer, IndexAnswer, ReadAnswer, SearchAnswer, SettleAnswer, SettleByIndexAnswer,
-    StepAnswer, UnpackAnswer,
-};
+use cobleskeg::Outcome;
 
 // The version of what is linked.
 const VERSION: u32 = 100;
@@ -50,8 +50,8 @@ pub extern "C" fn cobleskeg_read(
     ensures constraints_after { constraints.new ≡ writes (λ (h : Header). h.constraints) (read (reading file.now)) constraints.old }
 {
     match cobleskeg::read(file) {
-        ReadAnswer::Refused(n) => n,
-        ReadAnswer::Counts(h) => {
+        Err(e) => e.number(),
+        Ok(h) => {
             *symbols = h.symbols;
             *strings = h.strings;
             *numbers = h.numbers;
@@ -69,8 +69,8 @@ pub extern "C" fn cobleskeg_unpack(file: &[u8], table: &mut [u64]) -> u8
     ensures table_after { table.new ≡ leaves (λ T. T) (unpack (reading file.now) table.old) table.old }
 {
     match cobleskeg::unpack(file, table) {
-        UnpackAnswer::Refused(n) => n,
-        UnpackAnswer::Unpacked => 0,
+        Err(e) => e.number(),
+        Ok(()) => 0,
     }
 }
 
@@ -84,8 +84,8 @@ pub extern "C" fn cobleskeg_step(file: &[u8], j: usize, table: &mut [u64], struc
         ≡ writes (λ (a : Stepped). a.struck) (step (reading file.now) j table.old) struck.old }
 {
     match cobleskeg::step(file, j, table) {
-        StepAnswer::Refused(n) => n,
-        StepAnswer::Struck(n) => {
+        Err(e) => e.number(),
+        Ok(n) => {
             *struck = n;
             0
         }
@@ -109,8 +109,8 @@ pub extern "C" fn cobleskeg_settle(
         ≡ writes (λ (a : Settlement). bit_of a.every_value) (settle (reading file.now) table.old) every_value.old }
 {
     match cobleskeg::settle(file, table) {
-        SettleAnswer::Refused(n) => n,
-        SettleAnswer::Settled(s) => {
+        Err(e) => e.number(),
+        Ok(s) => {
             *rounds = s.count;
             *every_value = s.every_value as u8;
             0
@@ -125,8 +125,8 @@ pub extern "C" fn cobleskeg_index(file: &[u8], index: &mut [u64]) -> u8
     ensures index_after { index.new ≡ leaves (λ I. I) (model.index (reading file.now) index.old) index.old }
 {
     match cobleskeg::index(file, index) {
-        IndexAnswer::Refused(n) => n,
-        IndexAnswer::Indexed => 0,
+        Err(e) => e.number(),
+        Ok(()) => 0,
     }
 }
 
@@ -150,8 +150,8 @@ pub extern "C" fn cobleskeg_settle_by_index(
     ensures settled_alike { SettledAlike file.now table.old result table.new every_value.new }
 {
     match cobleskeg::settle_by_index(file, index, table) {
-        SettleByIndexAnswer::Refused(n) => n,
-        SettleByIndexAnswer::Settled(q) => {
+        Err(e) => e.number(),
+        Ok(q) => {
             *steps = q.count;
             *every_value = q.every_value as u8;
             0
@@ -165,6 +165,19 @@ const FOUND: u8 = 1;
 const NONE: u8 = 2;
 
 const SPENT: u8 = 3;
+
+// The outcome as a number, and the nodes that were visited.
+#[tactic(auto, unfolding(search::specs::Outcomes::outcome_of, crate::specs::Numbers::outcome_number, crate::specs::Numbers::outcome_nodes))]
+fn numbered(o: Outcome) -> (u8, u32)
+    ensures number { result.0 ≡ outcome_number (outcome_of o) }
+    ensures visited { result.1 ≡ outcome_nodes (outcome_of o) }
+{
+    match o {
+        Outcome::Found(n) => (FOUND, n),
+        Outcome::None(n) => (NONE, n),
+        Outcome::Spent(n) => (SPENT, n),
+    }
+}
 
 // Search, its outcome, and the nodes that it visited.
 #[unsafe(no_mangle)]
@@ -191,20 +204,11 @@ pub extern "C" fn cobleskeg_search(
         (search_answer result outcome.new nodes.new) table.new }
 {
     match cobleskeg::search(file, budget, room, table) {
-        SearchAnswer::Refused(n) => n,
-        SearchAnswer::Found(n) => {
-            *outcome = FOUND;
-            *nodes = n;
-            0
-        }
-        SearchAnswer::None(n) => {
-            *outcome = NONE;
-            *nodes = n;
-            0
-        }
-        SearchAnswer::Spent(n) => {
-            *outcome = SPENT;
-            *nodes = n;
+        Err(e) => e.number(),
+        Ok(o) => {
+            let (number, visited) = numbered(o);
+            *outcome = number;
+            *nodes = visited;
             0
         }
     }
@@ -251,8 +255,8 @@ pub extern "C" fn cobleskeg_compile(
     ensures accepts_language { result ≡ 0 → AcceptsLanguage symbols text.now (take written.new buffer.new) }
 {
     match cobleskeg::compile(text, symbols, buffer) {
-        CompileAnswer::Refused(n) => n,
-        CompileAnswer::Written(n) => {
+        Err(e) => e.number(),
+        Ok(n) => {
             *written = n;
             0
         }

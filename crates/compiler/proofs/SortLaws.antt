@@ -22,9 +22,9 @@ use Rattle.compiler.specs.Answers.{Sorted}
 
 -- ---- the symbol at a place
 
-pub symbol_in : (s : List ℕ) (p r : ℕ) → r ≡ symbol_of (get_or s p 0) → r ≡ symbol_at s p
+pub symbol-in : (s : List ℕ) (p x r : ℕ) → x ≡ get_or s p 0 → r ≡ symbol_of x → r ≡ symbol_at s p
 unfolding symbol_at
-symbol_in s p r e = e
+symbol-in s p x r e h = h ∙ ap symbol_of e
 
 pub symbol-past : (s : List ℕ) (p : ℕ) → length s ≤ p → 39 ≡ symbol_at s p
 unfolding symbol_at symbol_of

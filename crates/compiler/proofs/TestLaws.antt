@@ -1,16 +1,17 @@
 -- The tests that the compiler makes. Assumes nothing.
-use mathlib.Core.Path.{◌≡◌, refl, sym, ap, subst, ◌∙◌}
-use mathlib.Core.Bool.{Bool, true, false, not, ◌||◌, false≢true, true≢false}
-use mathlib.Core.List.{List, map}
-use Prim.Native.Nat.{ℕ, zero, suc, ◌+◌, ◌^◌, ◌≤◌, ◌<◌}
+use mathlib.Core.Path.{◌≡◌, refl, sym, ap, ◌∙◌}
+use mathlib.Core.Bool.{Bool, true, false, not, ◌&&◌, ◌||◌, false≢true, true≢false}
+use mathlib.Core.List.{List, [], ◌∷◌, map}
+use Prim.Native.Nat.{ℕ, zero, suc, ◌^◌, ◌<◌}
 use native.Mathlib.Omega.{arith}
 use lib.Bits.{bit_and}
 use lib.Dec.{eqb, leb, ltb}
 use lib.ListN.{length, get_or}
-use borrow.Author.Tests.{le-leb, lt-leb, eqb-true, eqb-false, eq-eqb, ne_eqb}
-use Rattle.model.specs.Lists.{any, select, upto}
+use Rattle.std.specs.List.{list_all}
+use borrow.Author.Tests.{eq-eqb, ne_eqb}
+use Rattle.model.specs.Lists.{any, all, select, upto}
 use Rattle.model.specs.Words.{bit, bits, union}
-use Rattle.laws.proofs.ListLaws.{of-any, in_any, in_all, in_get_or, get_or_in, of-all, of-select, in_select, of-upto, in_upto}
+use Rattle.laws.proofs.ListLaws.{of-any, in_any, of-select, in_select, of-upto, in_upto}
 use Rattle.laws.proofs.WordLaws.{zero_bit, no_bits, bit_high, of-bits, in_bits, within_antisym}
 use Rattle.laws.proofs.ShiftLaws.{and-bit, of-and-bit}
 use Rattle.model.specs.Pattern.{Pattern}
@@ -26,44 +27,10 @@ use Rattle.compiler.specs.Answers.{final_in}
 
 -- ---- letters
 
-pub letter-none : (b k y : ℕ) → y ≡ symbol_of b → 39 ≤ y → true ≡ (leb 39 (symbol_of b) || ltb (symbol_of b) k)
-letter-none b k y e l = rw (le-leb 39 (symbol_of b) (omega arith))
-
-pub letter-some : (b k y : ℕ) → y ≡ symbol_of b → y < 39 → ltb y k ≡ (leb 39 (symbol_of b) || ltb (symbol_of b) k)
-letter-some b k y e l = rw (lt-leb 39 (symbol_of b) (omega arith), e)
-
--- the letters before place p have symbols below k
-pub record Below (k : ℕ) (s : List ℕ) (p : ℕ) : Type 0 where
-  pub each : (j : ℕ) → j < p → (leb 39 (symbol_of (get_or s j 0)) || ltb (symbol_of (get_or s j 0)) k) ≡ true
-
-pub below-start : (k : ℕ) (s : List ℕ) → Below k s 0
-below-start k s = record { each = λ j l. absurd (omega arith) }
-
-pub below_step : (k : ℕ) (s : List ℕ) (p : ℕ) → Below k s p → (leb 39 (symbol_of (get_or s p 0)) || ltb (symbol_of (get_or s p 0)) k) ≡ true → Below k s (p + 1)
-below_step k s p h e = record { each = λ j l. go j l (eqb j p) refl }
-  where
-    go : (j : ℕ) → j < p + 1 → (t : Bool) → eqb j p ≡ t → (leb 39 (symbol_of (get_or s j 0)) || ltb (symbol_of (get_or s j 0)) k) ≡ true
-    go j l true q = subst (λ (x : ℕ). (leb 39 (symbol_of (get_or s x 0)) || ltb (symbol_of (get_or s x 0)) k) ≡ true) (sym (eqb-true j p q)) e
-    go j l false q = let n = eqb-false j p q in h.each j (omega arith)
-
-pub below_end : (k : ℕ) (s : List ℕ) (p : ℕ) → length s ≤ p → Below k s p → true ≡ letters_below k s
-unfolding letters_below
-below_end k s p l h = sym (in_all (λ b. leb 39 (symbol_of b) || ltb (symbol_of b) k) s (λ b m.
-    let t = in_get_or s 0 m in
-    let i = t.1 in
-    subst (λ (x : ℕ). (leb 39 (symbol_of x) || ltb (symbol_of x) k) ≡ true) t.2 (h.each t.0 (omega arith))))
-
-letter-of : (k : ℕ) (s : List ℕ) (p : ℕ) → p < length s → letters_below k s ≡ true → (leb 39 (symbol_of (get_or s p 0)) || ltb (symbol_of (get_or s p 0)) k) ≡ true
-unfolding letters_below
-letter-of k s p l q = of-all (λ b. leb 39 (symbol_of b) || ltb (symbol_of b) k) q (get_or_in s p 0 l)
-
-pub below-not : (k : ℕ) (s : List ℕ) (p : ℕ) → p < length s → (leb 39 (symbol_of (get_or s p 0)) || ltb (symbol_of (get_or s p 0)) k) ≡ false
-    → false ≡ letters_below k s
-below-not k s p l e = go (letters_below k s) refl
-  where
-    go : (t : Bool) → letters_below k s ≡ t → false ≡ t
-    go true q = absurd (false≢true (sym e ∙ letter-of k s p l q))
-    go false q = refl
+pub letters-all : (k : ℕ) (s : List ℕ) → list_all (λ b. leb 39 (symbol_of b) || ltb (symbol_of b) k) s ≡ letters_below k s
+unfolding letters_below all
+letters-all k [] = refl
+letters-all k (b ∷ s) = ap (λ (t : Bool). (leb 39 (symbol_of b) || ltb (symbol_of b) k) && t) (letters-all k s)
 
 -- ---- accepting states
 

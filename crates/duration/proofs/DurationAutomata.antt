@@ -1,4 +1,5 @@
 -- Of each version some automaton accepts just the durations, so that its Regular is a constraint of which the contract of `narrow` speaks. Assumes nothing.
+use Rattle.std.specs.Prelude.{Option as Answer}
 use mathlib.Core.Path.{◌≡◌, refl, ap, fun_ext, ◌∙◌}
 use mathlib.Core.Bool.{Bool, true, false, cond, not, ◌&&◌, ◌||◌}
 use mathlib.Core.List.{List, [], ◌∷◌, ◌++◌}
@@ -16,7 +17,7 @@ use Rattle.model.specs.Constraints.{Automaton, Choice, regular, variables, move,
 use Rattle.laws.proofs.WordLaws.{pow-bit}
 use Rattle.laws.proofs.ShiftLaws.{bit_mask, without-bit}
 use Rattle.rows.specs.Rows.{alone}
-use Rattle.inplace.specs.declared.Change.{Change}
+use Rattle.inplace.specs.declared.Changed.{Changed}
 use Rattle.inplace.specs.InPlace.{InPlace}
 use Rattle.duration.specs.Durations.{is_digit, digits, point_at, is_duration, DurationStep}
 
@@ -244,7 +245,7 @@ accepting v = go (ltb v 3) refl
     go false e = record { automaton = parted-automaton; same = λ α. rw e (parted-accepts (α.text 0)) }
 
 -- what the contract of `narrow` says of it
-pub regular-step : (v : ℕ) (T : List ℕ) (x : ℕ) (U : List ℕ) (r : Change) → DurationStep v T x U r
+pub regular-step : (v : ℕ) (T : List ℕ) (x : ℕ) (U : List ℕ) (r : Answer Changed) → DurationStep v T x U r
     → InPlace ((accepting v).automaton ∷ []) (regular 0 0) (x ∷ []) [] T U r
 unfolding variables
 regular-step v T x U r s = s.step ((accepting v).automaton ∷ []) (regular 0 0) refl (accepting v).same

@@ -1,7 +1,8 @@
 -- Duration in place: places keep what a duration may have there, and then lengths go. Assumes nothing.
+use Rattle.std.specs.Prelude.{Option, Some, None}
 use mathlib.Core.Path.{◌≡◌, refl, sym, ap, subst, ◌∙◌}
 use mathlib.Core.Logic.{◌≢◌}
-use mathlib.Core.Bool.{Bool, true, false, ◌||◌, false≢true}
+use mathlib.Core.Bool.{Bool, false, ◌||◌, false≢true}
 use mathlib.Core.List.{List}
 use Prim.Native.Nat.{ℕ, suc, ◌+◌, ◌*◌, ◌≤◌, ◌<◌}
 use native.Mathlib.Omega.{arith}
@@ -17,7 +18,7 @@ use Rattle.laws.proofs.RowLaws.{short-of}
 use Rattle.laws.proofs.Supports.{none-support, moved-support}
 use Rattle.words.specs.Ends.{Highest}
 use Rattle.rows.proofs.OneString.{Passing, one-narrowed}
-use Rattle.inplace.specs.declared.Change.{Change}
+use Rattle.inplace.specs.declared.Changed.{Changed}
 use Rattle.inplace.specs.InTable.{Tidy, Ready, Shortened, Flag}
 use Rattle.inplace.specs.Written.{Written}
 use Rattle.inplace.proofs.Tables.{row_first, row-place, highest-one, highest-within, only_out}
@@ -61,12 +62,12 @@ module _ (T : List ℕ) (x : ℕ) (fits : 64 * x + 64 ≤ length T) (bd : Words 
     within = l;
   }
 
-  pub spells_none : ls ≡ 0 → (c : Change) → c.left ≡ false → Spells most points T x T c
-  spells_none z c l = record {
+  pub spells_none : ls ≡ 0 → Spells most points T x T None
+  spells_none z = record {
     step = λ ds d test vs same alike. one_none ds d x T T refl (λ k o. refl)
         (one-narrowed ds d test vs same r (row-length T x fits) br (replicate 64 0)
         (tested test most points r br alike (replicate 64 0)
-        (none-support (Passing (is_spelled most points) r) text_bit 64 (nothing_left r br most points lim whole end ls 0 (found 0 never) z)))) c l;
+        (none-support (Passing (is_spelled most points) r) text_bit 64 (nothing_left r br most points lim whole end ls 0 (found 0 never) z))));
   }
     where
       never : Longest ls whole 0
@@ -123,7 +124,7 @@ module _ (T : List ℕ) (x : ℕ) (fits : 64 * x + 64 ≤ length T) (bd : Words 
       flag = let n = top-same in side-flag r (row U x) top (row U x) c tx top_small side ls t.top v (omega arith) t.cut p
           (λ z. ap (λ (L : List ℕ). row L x) (t.same z)) (λ z y. t.less z (sym (row_first U x) ∙ y))
 
-      pub spells_left : (cx : Bool) → cx ≡ (c || p) → Spells most points T x W (record { left = true; x = cx; y = false; z = false })
+      pub spells_left : (cx : Bool) → cx ≡ (c || p) → Spells most points T x W (Some (record { x = cx; y = false; z = false }))
       spells_left cx e = record {
         step = λ ds d test vs same alike. one_left ds d x T W (t.only.size ∙ written.size)
             (λ k o. let n = longest.small in only_out U x W t.only k o ∙ written.kept k (λ i l e. o (suc i) (omega arith) (omega arith)))
@@ -132,8 +133,8 @@ module _ (T : List ℕ) (x : ℕ) (fits : 64 * x + 64 ≤ length T) (bd : Words 
 
 -- ---- the versions
 
-pub whole-step : (v : ℕ) → v < 3 → (T : List ℕ) (x : ℕ) (U : List ℕ) (c : Change) → Spells 20 0 T x U c → DurationStep v T x U c
+pub whole-step : (v : ℕ) → v < 3 → (T : List ℕ) (x : ℕ) (U : List ℕ) (c : Option Changed) → Spells 20 0 T x U c → DurationStep v T x U c
 whole-step v h T x U c s = record { step = λ ds d vs same. s.step ds d (is_duration v) vs same (λ w l. whole-spelled v h w) }
 
-pub parted-step : (v : ℕ) → 3 ≤ v → (T : List ℕ) (x : ℕ) (U : List ℕ) (c : Change) → Spells 63 1024 T x U c → DurationStep v T x U c
+pub parted-step : (v : ℕ) → 3 ≤ v → (T : List ℕ) (x : ℕ) (U : List ℕ) (c : Option Changed) → Spells 63 1024 T x U c → DurationStep v T x U c
 parted-step v h T x U c s = record { step = λ ds d vs same. s.step ds d (is_duration v) vs same (parted-spelled v h) }

@@ -1,4 +1,6 @@
 -- Laws of the functions of `duration`: the turns of a stretch, the lengths that a duration may have, and the symbols of an index. Assumes nothing.
+use Rattle.std.specs.Prelude.{Option, Some, None, MatchOption}
+use Rattle.std.specs.Option.{unwrap_or}
 use mathlib.Core.Path.{◌≡◌, refl, sym, ap, ap₂, subst, ◌∙◌}
 use mathlib.Core.Logic.{◌≢◌, ◌⊎◌, inl, inr, ⊎_elim}
 use mathlib.Core.Bool.{Bool, true, false, cond, not, ◌&&◌, ◌||◌, false≢true}
@@ -10,7 +12,7 @@ use native.Mathlib.Numerals.{add-one}
 use lib.Bits.{bit_and, bit_or}
 use lib.Dec.{eqb, ltb}
 use lib.Pow.{pow-lt}
-use borrow.Author.Tests.{eqb-true, eq-eqb, ne_eqb, ltb-true, lt-ltb, le-ltb}
+use borrow.Author.Tests.{eqb-true, eq-eqb, ne_eqb, ltb-true, lt-ltb}
 use Rattle.model.specs.Words.{bit, word}
 use Rattle.laws.proofs.ListLaws.{and_true, true_and, or_true, not_true}
 use Rattle.laws.proofs.WordLaws.{zero_bit, pow-bit, pow_self, bit_high, of-or-bit, or-bit-left, or-bit-right}
@@ -31,6 +33,14 @@ Digits place i m = (j : ℕ) → i ≤ j → j < m → bit_and (place j) 1023 �
 pub digits-next : (place : ℕ → ℕ) (i m : ℕ) → Digits place i m → bit_and (place m) 1023 ≢ 0 → Digits place i (m + 1)
 digits-next place i m f n j l h =
     ⊎_elim (λ (q : j ≡ m). subst (λ (k : ℕ). bit_and (place k) 1023 ≢ 0) (sym q) n) (λ (q : j < m). f j l q) (eq-or-lt_of_le (omega arith))
+
+-- by what `find` ensures
+pub stretch_by : (place : ℕ → ℕ) (i lim : ℕ) → i ≤ lim → (r : Option ℕ)
+    → MatchOption r ((k : ℕ) → i ≤ k → k < lim → bit_and (place k) 1023 ≢ 0)
+    (λ m. (i ≤ m) × (m < lim) × (bit_and (place m) 1023 ≡ 0) × ((k : ℕ) → i ≤ k → k < m → bit_and (place k) 1023 ≢ 0))
+    → Stretch place i lim (unwrap_or r lim)
+stretch_by place i lim l None f = record { least = l; most = omega arith; filled = f; stop = λ h. absurd (omega arith) }
+stretch_by place i lim l (Some m) f = record { least = f.0; most = omega (arith, f.1); filled = f.3; stop = λ h. f.2 }
 
 -- ---- the digits behind a point
 
@@ -154,22 +164,6 @@ module _ (ls whole m : ℕ) (em : m ≡ 2 ^ (whole + 1) - 1) where
 -- ---- the symbols of an index
 
 module _ (whole low points i : ℕ) where
-  pub at-point : i ≡ whole → bit_or 1023 points ≡ symbols_at whole low points i
-  unfolding symbols_at
-  at-point e = rw (eq-eqb i whole e)
-
-  pub at_first : i ≢ whole → i ≡ 0 → 1023 ≡ symbols_at whole low points i
-  unfolding symbols_at
-  at_first n e = rw (ne_eqb i whole n, le-ltb 0 i (omega arith))
-
-  pub at_inner : i ≢ whole → i ≢ 0 → i + 1 < low → bit_or 1023 points ≡ symbols_at whole low points i
-  unfolding symbols_at
-  at_inner n z h = rw (ne_eqb i whole n, lt-ltb 0 i (omega arith), lt-ltb (i + 1) low h)
-
-  pub at-late : i ≢ whole → i ≢ 0 → low ≤ i + 1 → 1023 ≡ symbols_at whole low points i
-  unfolding symbols_at
-  at-late n z h = rw (ne_eqb i whole n, lt-ltb 0 i (omega arith), le-ltb (i + 1) low h)
-
   -- digits everywhere, and a point behind the whole part or within it
   pub of-symbols : (b : ℕ) → bit (symbols_at whole low points i) b ≡ true
       → (b < 10) ⊎ ((bit points b ≡ true) × ((i ≡ whole) ⊎ ((1 ≤ i) × (i + 1 < low))))

@@ -26,46 +26,12 @@ fn stretch(t: &[u64], a: usize, from: usize, lim: usize) -> usize
     requires { (from ≤ lim) × (a + lim < length t.now) }
     ensures { Stretch (places_after t.now a) from lim result }
 {
-    let mut i = from;
-    while i < lim {
-        if t[a + i + 1] & DIGITS == 0 {
-            return i;
-        }
-        i += 1;
-    }
-    i
+    (from..lim)
+        .find(|&i| t[a + i + 1] & DIGITS == 0)
+        .unwrap_or(lim)
 }
 
-// Where the digits behind a point at index `whole` end; `whole` where no point can stand there.
-fn fraction(t: &[u64], a: usize, whole: usize, lim: usize, points: u64) -> usize
-    requires { (whole ≤ lim) × (a + lim < length t.now) }
-    ensures { Fraction (places_after t.now a) whole lim points result }
-{
-    if whole == 0 {
-        return whole;
-    }
-    if whole == lim {
-        return whole;
-    }
-    if t[a + whole + 1] & points == 0 {
-        return whole;
-    }
-    stretch(t, a, whole + 1, lim)
-}
-
-// The allowed lengths that a duration may have: up to the greatest, and as far as its digits go, but not such that it would end with its point.
-fn lengths(allowed: u64, most: usize, whole: usize, end: usize) -> u64
-    requires { (most < 64) × (whole ≤ end) × (end < 64) }
-    ensures { Lengths allowed most whole end result }
-{
-    let fit = allowed & words::low_mask(most) & words::low_mask(end) & !1;
-    if whole == end {
-        return fit;
-    }
-    fit & !words::singleton(whole + 1)
-}
-
-// The greatest of these lengths that the whole part reaches; 0 where there is none.
+// The greatest of these lengths that the whole part reaches; 0, which no duration has, where there is none: the caller compares it alone.
 fn longest(lengths: u64, whole: usize) -> usize
     requires { whole < 64 }
     ensures { Longest lengths whole result }
@@ -77,71 +43,107 @@ fn longest(lengths: u64, whole: usize) -> usize
     words::highest(reached)
 }
 
-// The symbols that a duration may have at an index: digits; and the point behind the whole part, or within it, with a digit before and behind it in a string of
-// at most `low` symbols.
-fn symbols_at(i: usize, whole: usize, low: usize, points: u64) -> u64
-    requires { i < 64 }
-    ensures { result ≡ symbols_at whole low points i }
-{
-    if i == whole {
-        return DIGITS | points;
-    }
-    if i == 0 {
-        return DIGITS;
-    }
-    if i + 1 < low {
-        return DIGITS | points;
-    }
-    DIGITS
+// A spelling: the greatest length, and the word of the symbols that may be the point.
+#[derive(Clone, Copy)]
+struct Spelling {
+    most: usize,
+    points: u64,
 }
 
-// Keeps at the first n places after a what a duration may have there; whether one of them was another.
-fn keep(t: &mut [u64], a: usize, n: usize, whole: usize, low: usize, points: u64) -> bool
-    requires { (n < 64) × (a + n < length t.old) }
-    ensures { Written t.old a (λ i. bit_and (places_after t.old a i) (symbols_at whole low points i)) n t.new result }
-{
-    let mut changed = false;
-    let mut i: usize = 0;
-    while i < n {
-        let w = t[a + i + 1] & symbols_at(i, whole, low, points);
-        changed = inplace::either(changed, inplace::put(t, a + i + 1, w));
-        i += 1;
+impl Spelling {
+    // Where the digits behind a point at index `whole` end; `whole` where no point can stand there.
+    fn fraction(self, t: &[u64], a: usize, whole: usize, lim: usize) -> usize
+        requires { (whole ≤ lim) × (a + lim < length t.now) }
+        ensures { Fraction (places_after t.now a) whole lim self.points result }
+    {
+        if whole == 0 || whole == lim || t[a + whole + 1] & self.points == 0 {
+            return whole;
+        }
+        stretch(t, a, whole + 1, lim)
     }
-    changed
+
+    // The allowed lengths that a duration may have: up to the greatest, and as far as its digits go, but not such that it would end with its point.
+    fn lengths(self, allowed: u64, whole: usize, end: usize) -> u64
+        requires { (self.most < 64) × (whole ≤ end) × (end < 64) }
+        ensures { Lengths allowed self.most whole end result }
+    {
+        let fit = allowed & words::low_mask(self.most) & words::low_mask(end) & !1;
+        if whole == end {
+            return fit;
+        }
+        fit & !words::singleton(whole + 1)
+    }
+
+    // The symbols that a duration may have at an index: digits; and the point behind the whole part, or within it, with a digit before and behind it in a string
+    // of at most `low` symbols.
+    #[tactic(auto, unfolding(crate::specs::Stretches::symbols_at))]
+    fn symbols_at(self, i: usize, whole: usize, low: usize) -> u64
+        requires { i < 64 }
+        ensures { result ≡ symbols_at whole low self.points i }
+    {
+        if i == whole || (i > 0 && i + 1 < low) {
+            return DIGITS | self.points;
+        }
+        DIGITS
+    }
+
+    // Keeps at the first n places after a what a duration may have there; whether one of them was another.
+    fn keep(self, t: &mut [u64], a: usize, n: usize, whole: usize, low: usize) -> bool
+        requires { (n < 64) × (a + n < length t.old) }
+        ensures { Written t.old a (λ i. bit_and (places_after t.old a i) (symbols_at whole low self.points i)) n t.new result }
+    {
+        let mut changed = false;
+        for i in 0..n {
+            let w = t[a + i + 1] & self.symbols_at(i, whole, low);
+            changed |= inplace::put(t, a + i + 1, w);
+        }
+        changed
+    }
+
+    // The step of every constraint that holds just of the strings of this spelling.
+    fn narrow(self, t: &mut [u64], x: usize) -> Option<inplace::Changed>
+        requires { (64 * x + 64 ≤ length t.old) × Tidy (row t.old x) × (self.most < 64) }
+        ensures { Spells self.most self.points t.old x t.new result }
+    {
+        let a = 64 * x;
+        let allowed = t[a];
+        let lim = words::highest(allowed);
+        let whole = stretch(t, a, 0, lim);
+        let end = self.fraction(t, a, whole, lim);
+        let lengths = self.lengths(allowed, whole, end);
+        if lengths == 0 {
+            return None;
+        }
+        let low = longest(lengths, whole);
+        let mut changed = self.keep(t, a, words::highest(lengths), whole, low);
+        changed |= inplace::shorten(t, x, lengths);
+        Some(inplace::Changed {
+            x: changed,
+            y: false,
+            z: false,
+        })
+    }
 }
 
-// The step of every constraint that holds just of the strings of this spelling.
-fn narrow_spelling(t: &mut [u64], x: usize, most: usize, points: u64) -> inplace::Change
-    requires { (64 * x + 64 ≤ length t.old) × Tidy (row t.old x) × (most < 64) }
-    ensures { Spells most points t.old x t.new result }
-{
-    let a = 64 * x;
-    let allowed = t[a];
-    let lim = words::highest(allowed);
-    let whole = stretch(t, a, 0, lim);
-    let end = fraction(t, a, whole, lim, points);
-    let lengths = lengths(allowed, most, whole, end);
-    if lengths == 0 {
-        return inplace::nothing();
-    }
-    let low = longest(lengths, whole);
-    let changed = keep(t, a, words::highest(lengths), whole, low, points);
-    let shorter = inplace::shorten(t, x, lengths);
-    inplace::Change {
-        left: true,
-        x: inplace::either(changed, shorter),
-        y: false,
-        z: false,
-    }
-}
+// Versions 1 and 2: 1 to 20 digits.
+const WHOLE: Spelling = Spelling {
+    most: 20,
+    points: 0,
+};
+
+// From version 3 on: symbol 10 may be the point, and any length that a string can have will do.
+const PARTED: Spelling = Spelling {
+    most: 63,
+    points: 1024,
+};
 
 // One narrowing step: "For 1 and 2, X is 1 to 20 digits. From 3 on, X is one or more digits, then optionally symbol 10 and one or more digits."
-pub fn narrow(t: &mut [u64], x: usize, v: usize) -> inplace::Change
+pub fn narrow(t: &mut [u64], x: usize, v: usize) -> Option<inplace::Changed>
     requires { (64 * x + 64 ≤ length t.old) × Tidy (row t.old x) }
     ensures { DurationStep v t.old x t.new result }
 {
     if v < 3 {
-        return narrow_spelling(t, x, 20, 0);
+        return WHOLE.narrow(t, x);
     }
-    narrow_spelling(t, x, 63, 1024)
+    PARTED.narrow(t, x)
 }

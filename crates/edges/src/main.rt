@@ -14,181 +14,165 @@
 
 #![tactic(auto)]
 
-ghost use Rattle.std.specs.Prelude.{◌+◌, ◌*◌, ◌<◌, ◌≤◌, length};
 ghost use Rattle.std.specs.Counts.{IsPrefixLen};
+ghost use Rattle.std.specs.Iterator.{at_most};
+ghost use Rattle.std.specs.Prelude.{length};
 
-// The numbers of a case.
+use cobleskeg::{Header, Outcome, Refusal, Settled};
+use std::fmt;
+
 #[derive(Clone, Copy)]
-struct Case {
-    operation: usize,
+enum Operation {
+    ReadAndUnpack,
+    Step,
+    Settle,
+    Search,
+    Perform,
+    Compile,
+    Index,
+    SettleByIndex,
+    PerformByIndex,
+}
+
+// By the number of a case; each number from 8 on is that of a list with an index.
+impl From<u16> for Operation {
+    fn from(n: u16) -> Operation {
+        match n {
+            0 => Operation::ReadAndUnpack,
+            1 => Operation::Step,
+            2 => Operation::Settle,
+            3 => Operation::Search,
+            4 => Operation::Perform,
+            5 => Operation::Compile,
+            6 => Operation::Index,
+            7 => Operation::SettleByIndex,
+            _ => Operation::PerformByIndex,
+        }
+    }
+}
+
+// The numbers and parts of a case.
+#[derive(Clone, Copy)]
+struct Case<'a> {
+    operation: Operation,
     lent: usize,
     room: usize,
     fill: u64,
     argument: u32,
-    changes: usize,
-    calls: usize,
-    size: usize,
+    changes: &'a [u8],
+    calls: &'a [u8],
+    file: &'a [u8],
 }
 
-fn print(rt: &impl Print, text: &[u8]) {
-    let _ = rt.write_all(text);
-}
+// The cases that the input still holds.
+#[derive(Drop)]
+struct Cases<'a>(&'a [u8]);
 
-fn print_number(rt: &impl Print, n: u64) {
-    print(rt, b" ");
-    let _ = rt.print(n);
-}
+impl<'a> Iterator for Cases<'a> {
+    type Item = Case<'a>;
 
-fn print_refused(rt: &impl Print, n: u8) {
-    print(rt, b" refused");
-    print_number(rt, n as u64);
-}
+    ghost remaining = { λ s. at_most (length s.0.now) };
 
-// The end of the run of equal words that begins here.
-fn run_end(words: &[u64], from: usize) -> usize
-    requires { from < length words.now }
-    ensures { (from < result) × (result ≤ length words.now) }
-{
-    let mut i = from + 1;
-    while i < words.len() {
-        if words[i] != words[from] {
-            return i;
-        }
-        i += 1;
+    // None too where less of a case is left than it says.
+    fn next(&mut self) -> Option<Case<'a>> {
+        let head = self.0.split_off(..18)?;
+        let changes = self.0.split_off(..10 * little::two(head, 12) as usize)?;
+        let calls = self.0.split_off(..4 * little::two(head, 14) as usize)?;
+        let file = self.0.split_off(..little::two(head, 16) as usize)?;
+        Some(Case {
+            operation: Operation::from(little::two(head, 0)),
+            lent: little::two(head, 2) as usize,
+            room: little::two(head, 4) as usize,
+            fill: little::two(head, 6) as u64,
+            argument: little::four(head, 8),
+            changes,
+            calls,
+            file,
+        })
     }
-    i
 }
 
-// Every word, a run of n equal ones as one word, `x` and n.
-fn print_words(rt: &impl Print, words: &[u64]) {
-    let mut i: usize = 0;
-    while i < words.len() {
-        let end = run_end(words, i);
-        print_number(rt, words[i]);
-        if end - i > 1 {
-            print(rt, b"x");
-            let _ = rt.print((end - i) as u64);
+// What a call that is not refused answers.
+#[derive(Clone, Copy)]
+enum Answer {
+    Counts(Header),
+    Done,
+    Struck(u32),
+    Rounds(Settled),
+    Steps(Settled),
+    Ended(Outcome),
+    Written(usize),
+}
+
+impl fmt::Display for Answer {
+    fn fmt<W: fmt::Write>(&self, f: &mut fmt::Formatter<W>) -> fmt::Result {
+        match self {
+            Answer::Counts(h) => write!(
+                f,
+                "{} {} {} {} {}",
+                h.symbols, h.strings, h.numbers, h.automata, h.constraints
+            ),
+            Answer::Done => write!(f, "done"),
+            Answer::Struck(n) => write!(f, "struck {n}"),
+            Answer::Rounds(s) => write!(f, "rounds {} {}", s.count, s.every_value),
+            Answer::Steps(s) => write!(f, "steps {} {}", s.count, s.every_value),
+            Answer::Ended(outcome) => write!(f, "{outcome}"),
+            Answer::Written(n) => write!(f, "written {n}"),
         }
-        i = end;
     }
+}
+
+// Printed is every word, a run of n equal ones as one word, `x` and n.
+#[derive(Clone, Copy)]
+struct Words<'a>(&'a [u64]);
+
+impl<'a> fmt::Display for Words<'a> {
+    fn fmt<W: fmt::Write>(&self, f: &mut fmt::Formatter<W>) -> fmt::Result {
+        for run in self.0.chunk_by(|a, b| a == b) {
+            match run {
+                [] => {}
+                [word] => write!(f, " {word}")?,
+                [word, ..] => write!(f, " {word}x{}", run.len())?,
+            }
+        }
+        Ok(())
+    }
+}
+
+// The start of a line: the call, and what it answers or the refusal's number.
+fn print_answer(rt: &impl Print, call: &str, answer: Result<Answer, Refusal>) {
+    let _ = match answer {
+        Ok(a) => print!(rt; "{call} {a}"),
+        Err(e) => print!(rt; "{call} refused {}", e.number()),
+    };
 }
 
 // The end of a line: what the call left in the table.
 fn print_left(rt: &impl Print, table: &[u64]) {
-    print(rt, b" left");
-    print_words(rt, table);
-    print(rt, b"\n");
+    let _ = println!(rt; " left{}", Words(table));
 }
 
 fn sum(table: &[u64]) -> u64 {
-    let mut total: u64 = 0;
-    let mut i: usize = 0;
-    while i < table.len() {
-        total = total.wrapping_add(table[i]);
-        i += 1;
-    }
-    total
+    table
+        .iter()
+        .fold(0, |total: u64, word| total.wrapping_add(*word))
 }
 
-fn print_read(rt: &impl Print, file: &[u8]) {
-    print(rt, b"read");
-    match cobleskeg::read(file) {
-        cobleskeg::ReadAnswer::Refused(n) => print_refused(rt, n),
-        cobleskeg::ReadAnswer::Counts(h) => {
-            print_number(rt, h.symbols as u64);
-            print_number(rt, h.strings as u64);
-            print_number(rt, h.numbers as u64);
-            print_number(rt, h.automata as u64);
-            print_number(rt, h.constraints as u64);
-        }
-    }
+// One line for both, with the sum of the table's words.
+fn read_and_unpack(rt: &impl Print, file: &[u8], table: &mut [u64]) {
+    print_answer(rt, "read", cobleskeg::read(file).map(Answer::Counts));
+    print_answer(
+        rt,
+        " unpack",
+        cobleskeg::unpack(file, table).map(|_| Answer::Done),
+    );
+    let _ = println!(rt; " left {}", sum(table));
 }
 
-fn print_unpack(rt: &impl Print, file: &[u8], table: &mut [u64]) {
-    print(rt, b" unpack");
-    match cobleskeg::unpack(file, table) {
-        cobleskeg::UnpackAnswer::Refused(n) => print_refused(rt, n),
-        cobleskeg::UnpackAnswer::Unpacked => print(rt, b" done"),
-    }
-    print(rt, b" left");
-    print_number(rt, sum(table));
-    print(rt, b"\n");
-}
-
-fn print_step(rt: &impl Print, file: &[u8], j: usize, table: &mut [u64]) {
-    print(rt, b"step");
-    match cobleskeg::step(file, j, table) {
-        cobleskeg::StepAnswer::Refused(n) => print_refused(rt, n),
-        cobleskeg::StepAnswer::Struck(n) => {
-            print(rt, b" struck");
-            print_number(rt, n as u64);
-        }
-    }
-    print_left(rt, table);
-}
-
-fn print_flag(rt: &impl Print, every_value: bool) {
-    if every_value {
-        print(rt, b" true");
-    } else {
-        print(rt, b" false");
-    }
-}
-
-fn print_settle(rt: &impl Print, file: &[u8], table: &mut [u64]) {
-    print(rt, b"settle");
-    match cobleskeg::settle(file, table) {
-        cobleskeg::SettleAnswer::Refused(n) => print_refused(rt, n),
-        cobleskeg::SettleAnswer::Settled(r) => {
-            print(rt, b" rounds");
-            print_number(rt, r.count as u64);
-            print_flag(rt, r.every_value);
-        }
-    }
-    print_left(rt, table);
-}
-
-fn print_index(rt: &impl Print, file: &[u8], index: &mut [u64]) {
-    print(rt, b"index");
-    match cobleskeg::index(file, index) {
-        cobleskeg::IndexAnswer::Refused(n) => print_refused(rt, n),
-        cobleskeg::IndexAnswer::Indexed => print(rt, b" done"),
-    }
-    print_left(rt, index);
-}
-
-fn print_settle_by_index(rt: &impl Print, file: &[u8], index: &[u64], table: &mut [u64]) {
-    print(rt, b"settle by index");
-    match cobleskeg::settle_by_index(file, index, table) {
-        cobleskeg::SettleByIndexAnswer::Refused(n) => print_refused(rt, n),
-        cobleskeg::SettleByIndexAnswer::Settled(r) => {
-            print(rt, b" steps");
-            print_number(rt, r.count as u64);
-            print_flag(rt, r.every_value);
-        }
-    }
-    print_left(rt, table);
-}
-
-fn print_search(rt: &impl Print, file: &[u8], budget: u32, room: &mut [u64], table: &mut [u64]) {
-    print(rt, b"search");
-    match cobleskeg::search(file, budget, room, table) {
-        cobleskeg::SearchAnswer::Refused(n) => print_refused(rt, n),
-        cobleskeg::SearchAnswer::Found(n) => {
-            print(rt, b" found");
-            print_number(rt, n as u64);
-        }
-        cobleskeg::SearchAnswer::None(n) => {
-            print(rt, b" none");
-            print_number(rt, n as u64);
-        }
-        cobleskeg::SearchAnswer::Spent(n) => {
-            print(rt, b" spent");
-            print_number(rt, n as u64);
-        }
-    }
-    print(rt, b" room");
-    print_words(rt, room);
+fn search(rt: &impl Print, case: &Case, room: &mut [u64], table: &mut [u64]) {
+    let outcome = cobleskeg::search(case.file, case.argument, room, table);
+    print_answer(rt, "search", outcome.map(Answer::Ended));
+    let _ = print!(rt; " room{}", Words(room));
     print_left(rt, table);
 }
 
@@ -196,36 +180,26 @@ fn print_search(rt: &impl Print, file: &[u8], budget: u32, room: &mut [u64], tab
 fn take_calls(bytes: &[u8], list: &mut [u32]) -> usize
     ensures { IsPrefixLen result list.new }
 {
-    let mut i: usize = 0;
-    while i < list.len() {
-        if 4 * i + 4 > bytes.len() {
-            return i;
-        }
-        list[i] = little::four(bytes, 4 * i);
-        i += 1;
+    let (calls, _) = bytes.as_chunks::<4>();
+    for (n, call) in list.iter_mut().zip(calls) {
+        *n = u32::from_le_bytes(*call);
     }
-    i
+    calls.len().min(list.len())
 }
 
-fn print_perform(rt: &impl Print, file: &[u8], calls: &[u8], table: &mut [u64]) {
+fn perform(rt: &impl Print, case: &Case, table: &mut [u64]) {
     let mut list = [0u32; 8];
-    let n = take_calls(calls, &mut list);
-    cobleskeg::perform(file, &list[..n], table);
-    print(rt, b"perform");
+    let n = take_calls(case.calls, &mut list);
+    cobleskeg::perform(case.file, &list[..n], table);
+    let _ = print!(rt; "perform");
     print_left(rt, table);
 }
 
-fn print_perform_by_index(
-    rt: &impl Print,
-    file: &[u8],
-    calls: &[u8],
-    index: &[u64],
-    table: &mut [u64],
-) {
+fn perform_by_index(rt: &impl Print, case: &Case, index: &[u64], table: &mut [u64]) {
     let mut list = [0u32; 8];
-    let n = take_calls(calls, &mut list);
-    cobleskeg::perform_by_index(file, &list[..n], index, table);
-    print(rt, b"perform by index");
+    let n = take_calls(case.calls, &mut list);
+    cobleskeg::perform_by_index(case.file, &list[..n], index, table);
+    let _ = print!(rt; "perform by index");
     print_left(rt, table);
 }
 
@@ -233,167 +207,86 @@ fn print_perform_by_index(
 fn to_bytes(words: &[u64], bytes: &mut [u8]) -> usize
     ensures { IsPrefixLen result bytes.new }
 {
-    let mut i: usize = 0;
-    while i < bytes.len() {
-        if i >= words.len() {
-            return i;
-        }
-        bytes[i] = (words[i] % 256) as u8;
-        i += 1;
+    for (byte, word) in bytes.iter_mut().zip(words) {
+        *byte = (*word % 256) as u8;
     }
-    i
+    words.len().min(bytes.len())
 }
 
 // A word of each byte, as far as there are words.
 fn to_words(bytes: &[u8], words: &mut [u64]) {
-    let mut i: usize = 0;
-    while i < words.len() {
-        if i >= bytes.len() {
-            return;
-        }
-        words[i] = bytes[i] as u64;
-        i += 1;
+    for (word, byte) in words.iter_mut().zip(bytes) {
+        *word = u64::from(*byte);
     }
 }
 
-// The words get the bytes that the call leaves.
-fn compile(rt: &impl Print, text: &[u8], k: usize, buffer: &mut [u8], words: &mut [u64]) {
-    print(rt, b"compile");
-    match cobleskeg::compile(text, k, buffer) {
-        cobleskeg::CompileAnswer::Refused(n) => print_refused(rt, n),
-        cobleskeg::CompileAnswer::Written(n) => {
-            print(rt, b" written");
-            print_number(rt, n as u64);
-        }
-    }
+// The words stand for the bytes of the lent buffer, and get those that the call leaves.
+fn compile(rt: &impl Print, case: &Case, words: &mut [u64]) {
+    let mut bytes = [0u8; 4096];
+    let n = to_bytes(words, &mut bytes);
+    let buffer = &mut bytes[..n];
+    let written = cobleskeg::compile(case.file, case.argument as usize, buffer);
+    print_answer(rt, "compile", written.map(Answer::Written));
     to_words(buffer, words);
     print_left(rt, words);
 }
 
-// The words stand for the bytes of the lent buffer.
-fn print_compile(rt: &impl Print, text: &[u8], k: usize, words: &mut [u64]) {
-    let mut buffer = [0u8; 4096];
-    let n = to_bytes(words, &mut buffer);
-    compile(rt, text, k, &mut buffer[..n], words);
-}
-
 // One line for a case.
-fn report(
-    rt: &impl Print,
-    operation: usize,
-    argument: u32,
-    calls: &[u8],
-    file: &[u8],
-    room: &mut [u64],
-    table: &mut [u64],
-) {
-    match operation {
-        0 => {
-            print_read(rt, file);
-            print_unpack(rt, file, table);
+fn report(rt: &impl Print, case: &Case, room: &mut [u64], table: &mut [u64]) {
+    let file = case.file;
+    match case.operation {
+        Operation::ReadAndUnpack => read_and_unpack(rt, file, table),
+        Operation::Step => {
+            let struck = cobleskeg::step(file, case.argument as usize, table);
+            print_answer(rt, "step", struck.map(Answer::Struck));
+            print_left(rt, table);
         }
-        1 => print_step(rt, file, argument as usize, table),
-        2 => print_settle(rt, file, table),
-        3 => print_search(rt, file, argument, room, table),
-        4 => print_perform(rt, file, calls, table),
-        5 => print_compile(rt, file, argument as usize, room),
-        6 => print_index(rt, file, room),
-        7 => print_settle_by_index(rt, file, room, table),
-        _ => print_perform_by_index(rt, file, calls, room, table),
-    }
-}
-
-// Writes a word of a buffer whose places begin at `first`; a place outside the buffer is passed over.
-fn put(words: &mut [u64], first: usize, place: usize, word: u64) {
-    if place >= first {
-        let i = place - first;
-        if i < words.len() {
-            words[i] = word;
+        Operation::Settle => {
+            let settled = cobleskeg::settle(file, table);
+            print_answer(rt, "settle", settled.map(Answer::Rounds));
+            print_left(rt, table);
         }
+        Operation::Search => search(rt, case, room, table),
+        Operation::Perform => perform(rt, case, table),
+        Operation::Compile => compile(rt, case, room),
+        Operation::Index => {
+            let indexed = cobleskeg::index(file, room);
+            print_answer(rt, "index", indexed.map(|_| Answer::Done));
+            print_left(rt, room);
+        }
+        Operation::SettleByIndex => {
+            let settled = cobleskeg::settle_by_index(file, room, table);
+            print_answer(rt, "settle by index", settled.map(Answer::Steps));
+            print_left(rt, table);
+        }
+        Operation::PerformByIndex => perform_by_index(rt, case, room, table),
     }
 }
 
-// Writes the words of the buffer that differ from the fill.
-fn change(words: &mut [u64], first: usize, changes: &[u8]) {
-    let mut at: usize = 0;
-    while at + 10 <= changes.len() {
-        let place = little::two(changes, at) as usize;
-        put(words, first, place, little::eight(changes, at + 2));
-        at += 10;
-    }
-}
-
-// Lends the first words of the room and of the table.
-fn lend(rt: &impl Print, c: Case, calls: &[u8], file: &[u8], room: &mut [u64], table: &mut [u64])
-    requires { (c.room ≤ length room.old) × (c.lent ≤ length table.old) }
-{
-    let words = c.room;
-    let lent = c.lent;
-    report(
-        rt,
-        c.operation,
-        c.argument,
-        calls,
-        file,
-        &mut room[..words],
-        &mut table[..lent],
-    );
-}
-
-// Nothing is printed where more words are asked for than there are.
-fn run(rt: &impl Print, c: Case, changes: &[u8], calls: &[u8], file: &[u8]) {
-    let fill = c.fill;
-    let mut table = [fill; 2048];
-    let mut room = [fill; 4096];
-    change(&mut table, 0, changes);
-    change(&mut room, 2048, changes);
-    if c.lent <= 2048 {
-        if c.room <= 4096 {
-            lend(rt, c, calls, file, &mut room, &mut table);
+// Writes the words that differ from the fill; a place outside is passed over.
+fn change(words: &mut [u64], changes: &[u8]) {
+    for part in changes.as_chunks::<10>().0 {
+        if let Some(word) = words.get_mut(little::two(part, 0) as usize) {
+            *word = little::eight(part, 2);
         }
     }
 }
 
-fn case_at(input: &[u8], at: usize) -> Case
-    requires { at + 18 ≤ length input.now }
-    ensures { (result.changes < 65536) × (result.calls < 65536) × (result.size < 65536) }
-{
-    Case {
-        operation: little::two(input, at) as usize,
-        lent: little::two(input, at + 2) as usize,
-        room: little::two(input, at + 4) as usize,
-        fill: little::two(input, at + 6) as u64,
-        argument: little::four(input, at + 8),
-        changes: little::two(input, at + 12) as usize,
-        calls: little::two(input, at + 14) as usize,
-        size: little::two(input, at + 16) as usize,
-    }
-}
-
-fn run_all(rt: &impl Print, input: &[u8]) {
-    let mut at: usize = 0;
-    while at + 18 <= input.len() {
-        let c = case_at(input, at);
-        let changes = at + 18;
-        let calls = changes + 10 * c.changes;
-        let file = calls + 4 * c.calls;
-        let end = file + c.size;
-        if end > input.len() {
-            return;
-        }
-        run(
-            rt,
-            c,
-            &input[changes..calls],
-            &input[calls..file],
-            &input[file..end],
-        );
-        at = end;
+// Lends the first words of the longest table and of the room, which follows it. Nothing is printed where more words are asked for than there are.
+fn run(rt: &impl Print, case: &Case) {
+    let fill = case.fill;
+    let mut words = [fill; 6144];
+    change(&mut words, case.changes);
+    let (table, room) = words.split_at_mut(2048);
+    if case.lent <= table.len() && case.room <= room.len() {
+        report(rt, case, &mut room[..case.room], &mut table[..case.lent]);
     }
 }
 
 fn main(rt: HostRuntime) {
     let mut input: [u8; 524288] = streams::zeros();
     let n = streams::read_full(&rt, &mut input);
-    run_all(&rt, &input[..n]);
+    for case in Cases(&input[..n]) {
+        run(&rt, &case);
+    }
 }

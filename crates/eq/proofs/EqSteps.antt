@@ -1,7 +1,8 @@
 -- Eq in place: what is left where the places have met up to some length. Assumes nothing.
+use Rattle.std.specs.Prelude.{Some, None}
 use mathlib.Core.Path.{◌≡◌, refl, sym, ap, ap₂, subst, ◌∙◌}
 use mathlib.Core.Logic.{◌≢◌}
-use mathlib.Core.Bool.{Bool, true, false, ◌||◌}
+use mathlib.Core.Bool.{Bool, false, ◌||◌}
 use mathlib.Core.List.{List, [], ◌∷◌, ◌++◌}
 use Prim.Native.Nat.{ℕ, suc, ◌+◌, ◌-◌, ◌*◌, ◌^◌, ◌≤◌, ◌<◌}
 use native.Mathlib.Omega.{arith}
@@ -19,7 +20,6 @@ use Rattle.laws.proofs.ShiftLaws.{of-and-bit}
 use Rattle.laws.proofs.DomainLaws.{row-length, row_words}
 use Rattle.inplace.specs.InTable.{Tidy, Out, Ready, both, Meet, Shortened, zeros}
 use Rattle.inplace.specs.InPlace.{InPlace}
-use Rattle.inplace.specs.declared.Change.{Change}
 use Rattle.inplace.proofs.Reach.{Reach, empty-none, reach-none}
 use Rattle.inplace.proofs.Tables.{row_first, row-place, highest-most}
 use Rattle.inplace.proofs.Sides.{side-of}
@@ -47,11 +47,10 @@ module _ (T : List ℕ) (x y : ℕ) (fx : 64 * x + 64 ≤ length T) (fy : 64 * y
   M-narrowed : trimmed M ++ trimmed M ≡ narrowed (alone 2 0 []) (eq 0 1) (row T x ++ row T y)
   M-narrowed = eq-narrowed (row T x) (row T y) (row-length T x fx) (row-length T y fy) (row_words T bd x) (row_words T bd y)
 
-  eq-nothing : (U : List ℕ) → length U ≡ length T → ((k : ℕ) → Out x k → Out y k → word U k ≡ word T k) → zeros ≡ trimmed M → (r : Change) → r.left ≡ false
-      → InPlace [] (eq 0 1) (x ∷ y ∷ []) [] T U r
+  eq-nothing : (U : List ℕ) → length U ≡ length T → ((k : ℕ) → Out x k → Out y k → word U k ≡ word T k) → zeros ≡ trimmed M → InPlace [] (eq 0 1) (x ∷ y ∷ []) [] T U None
   eq-nothing U lU others e = two_none (eq 0 1) x y T U lU others (ap₂ (λ (r s : List ℕ). r ++ s) e e ∙ M-narrowed)
 
-  pub eq-empty : common ≡ 0 → (r : Change) → r.left ≡ false → InPlace [] (eq 0 1) (x ∷ y ∷ []) [] T T r
+  pub eq-empty : common ≡ 0 → InPlace [] (eq 0 1) (x ∷ y ∷ []) [] T T None
   eq-empty e = eq-nothing T refl (λ k f g. refl) (empty-none M M-words (met-length (row T x) (row T y)) (M-first ∙ e))
 
   -- ---- after the places are met
@@ -88,7 +87,7 @@ module _ (T : List ℕ) (x y : ℕ) (fx : 64 * x + 64 ≤ length T) (fy : 64 * y
       is-short : ls ≡ short M m
       is-short = ap₂ bit_and (sym M-first) em
 
-      pub eq-none : ls ≡ 0 → (r : Change) → r.left ≡ false → InPlace [] (eq 0 1) (x ∷ y ∷ []) [] T T₁ r
+      pub eq-none : ls ≡ 0 → InPlace [] (eq 0 1) (x ∷ y ∷ []) [] T T₁ None
       eq-none e = eq-nothing T₁ meet.done.size outside (reach-none M m M-words reach (met-length (row T x) (row T y)) (sym is-short ∙ e))
 
       part-x : Part T x T₁ M m ls cx
@@ -140,5 +139,5 @@ module _ (T : List ℕ) (x y : ℕ) (fx : 64 * x + 64 ≤ length T) (fy : 64 * y
 
       pub eq-some : (T₂ : List ℕ) (p : Bool) → Shortened T₁ x ls T₂ p → (U : List ℕ) (q : Bool) → Shortened T₂ y ls U q → (cx' cy' : Bool) → cx' ≡ (cx || p)
           → cy' ≡ (cy || q)
-          → InPlace [] (eq 0 1) (x ∷ y ∷ []) [] T U (record { left = true; x = cx'; y = cy'; z = false })
+          → InPlace [] (eq 0 1) (x ∷ y ∷ []) [] T U (Some (record { x = cx'; y = cy'; z = false }))
       eq-some T₂ p sx = pair_left (eq 0 1) T x y ne T₁ meet.done.size outside M M m m ls ls cx cy part-x part-y T₂ p sx M-narrowed

@@ -1,7 +1,9 @@
 -- What the parts of an accepted file hold: its problem by the parts' counts and bytes, and that this is what reading the file gives. Assumes nothing.
-use mathlib.Core.Path.{◌≡◌, sym, ap, ◌∙◌}
+use mathlib.Core.Path.{◌≡◌, refl, sym, ap, ◌∙◌}
 use mathlib.Core.List.{List, map}
-use mathlib.Core.Option.{some}
+use mathlib.Core.Option.{some, some-injective}
+use Rattle.std.specs.Prelude.{Option, Some, None}
+use Rattle.std.specs.Option.{IsSome}
 use Prim.Native.Nat.{ℕ, ◌+◌, ◌-◌, ◌*◌, ◌≤◌, ◌<◌}
 use native.Mathlib.Omega.{arith}
 use lib.ListN.{length, get_or, take, drop}
@@ -15,6 +17,9 @@ use Rattle.layout.specs.Replied.{parts_of, PartsFit}
 use Rattle.laws.specs.Inclusion.{In}
 use Rattle.laws.proofs.ListLaws.{collect_in}
 use Rattle.laws.proofs.ReadingLaws.{take-bytes, decode-machine, Sound, problem_of-sound}
+use Rattle.records.specs.declared.Record.{Record}
+use Rattle.records.specs.Records.{constraint_of, decoded_of}
+use Rattle.records.proofs.RecordLaws.{is-constraint, is_none}
 use Rattle.records.proofs.RecordRefusalLaws.{decoded-at}
 use Rattle.format.specs.Accepting.{accepted, given_by, content_of, problem_in, table_in, Usable}
 use Rattle.format.proofs.AcceptLaws.{Holds, problem_of-holds, Held, reading-held}
@@ -101,3 +106,16 @@ module _ (file : List ℕ) (p : Parts) where
         let n : p.automata_at - p.constraints_at ≡ 4 * p.c = omega (arith, u.fits.constraints-end) in
         ap (λ (n : ℕ). decode p.s p.t p.d (part (4 * j) 4 (take n (drop p.constraints_at file)))) n
         ∙ decoded-at p.s p.t p.d p.c _ (problem_in file p).constraints usable-holds.decoded j less
+
+    -- so that what the code takes for record j is one, and that constraint
+    module _ (j : ℕ) (o : Option Record) (e : decoded_of o ≡ decode p.s p.t p.d (part (4 * j) 4 (take (p.automata_at - p.constraints_at) (drop p.constraints_at file))))
+        (less : j < p.c) where
+      pub constraint-is : (r : Record) → o ≡ Some r → constraint_of r ≡ get_or (problem_in file p).constraints j (always 0)
+      constraint-is r q = some-injective _ _ (sym (is-constraint e q) ∙ usable-record j less)
+
+      pub constraint-there : IsSome o
+      constraint-there = go o e
+        where
+          go : (o : Option Record) → decoded_of o ≡ decode p.s p.t p.d (part (4 * j) 4 (take (p.automata_at - p.constraints_at) (drop p.constraints_at file))) → IsSome o
+          go None e = let q = sym (is_none e refl) ∙ usable-record j less in cc
+          go (Some r) e = refl

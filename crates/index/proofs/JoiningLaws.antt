@@ -4,15 +4,16 @@ use mathlib.Core.Logic.{◌⊎◌, inl, inr, ⊎_elim}
 use mathlib.Core.Bool.{Bool, true, false}
 use mathlib.Core.List.Memᴰ
 use mathlib.Core.List.{List, [], ◌∷◌, ◌++◌}
-use Prim.Native.Nat.{ℕ, ◌<◌}
+use Prim.Native.Nat.{ℕ, ◌+◌, ◌<◌}
 use lib.Bits.{bit_or}
 use lib.Dec.{eqb}
-use lib.ListN.{length, set}
+use lib.ListN.{length, get_or, take, set}
 use lib.Seq.{get_or-set_same, get_or-set_other}
 use borrow.Author.Tests.{eqb-true, eqb-false}
 use Rattle.model.specs.Words.{bit, word}
 use Rattle.laws.specs.Inclusion.{In}
 use Rattle.laws.proofs.WordLaws.{or-bit-left, or-bit-right, of-or-bit}
+use Rattle.steps.proofs.TidyLaws.{take_next}
 use Rattle.index.specs.Joining.{Joined}
 
 -- joined in at one place
@@ -63,3 +64,9 @@ joined-more is js b ix jx kx p q = record {
   only = λ i k e. ⊎_elim (λ l. ⊎_elim (λ old. inl old) (λ new. inr (Memᴰ.append_left js new.0, new.1)) (p.only i k l))
       (λ r. inr (Memᴰ.append_right is r.0, r.1)) (q.only i k e);
 }
+
+-- at one position more of a list
+pub joined_next : (is : List ℕ) (j b : ℕ) (ix jx : List ℕ) → j < length is → get_or is j 0 < length jx → Joined (take j is) b ix jx
+    → Joined (take (j + 1) is) b ix (set jx (get_or is j 0) (bit_or (word jx (get_or is j 0)) b))
+joined_next is j b ix jx l h p =
+    rw (take_next is j l) (joined-more (take j is) (get_or is j 0 ∷ []) b ix jx _ p (joined-one jx (get_or is j 0) b h))

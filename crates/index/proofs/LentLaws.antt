@@ -6,12 +6,14 @@ use mathlib.Core.Bool.{Bool, true, false, cond, false≢true}
 use mathlib.Core.List.Memᴰ
 use mathlib.Core.List.{List, [], ◌∷◌}
 use Prim.Native.Nat.{ℕ, ◌+◌, ◌-◌, ◌*◌, ◌/◌, ◌%◌, ◌^◌, ◌≤◌, ◌<◌}
-use native.Mathlib.Nat.{eq-or-lt_of_le}
 use native.Mathlib.Omega.{arith}
 use lib.Bits.{bit_or, or_zero_r}
 use lib.Dec.{eqb, ltb}
 use lib.ListN.{length, get_or}
 use lib.Seq.{ext_get_or}
+use Rattle.std.proofs.lemmas.List.FromFn.{get_or-range_with_len, length-range_with_len}
+use Rattle.std.specs.Prelude.{MatchBool}
+use Rattle.std.specs.List.{AllWithin, HoldsAt, range_with_len}
 use borrow.Author.Tests.{eqb-true, eq-eqb, ltb-true, ltb-false}
 use Rattle.model.specs.Lists.{same}
 use Rattle.model.specs.Words.{bit, word}
@@ -25,9 +27,9 @@ use Rattle.laws.proofs.ListLaws.{same_refl, same_false}
 use Rattle.laws.proofs.WordLaws.{of-or-bit, or-bit-left, or-bit-right, zero_bit, zero-within, within_antisym, pow_self, pow-only}
 use Rattle.laws.proofs.DomainLaws.{str≢num}
 use Rattle.laws.proofs.StepIndexLaws.{of-word_from, in_word_from, step_at-constraint, step_at_trimming, of-touching, in_touching, index-length, index-string, index_number}
-use Rattle.layout.specs.declared.Parts.{Parts}
-use Rattle.format.specs.Accepting.{problem_in, Usable}
-use Rattle.format.proofs.ContentLaws.{usable-counts}
+use Rattle.format.specs.declared.problem.Problem as accepted
+use Rattle.format.specs.Problems.{the_problem}
+use Rattle.format.proofs.ContentLaws.{Counts, usable-counts}
 use Rattle.index.specs.Index.{position, Index}
 
 -- ---- one step alone
@@ -153,15 +155,6 @@ module _ (P : Problem) (ix : List ℕ) (x : Index P ix) (few : length P.constrai
           ap (λ (v : ℕ). bit_or (cond (eqb (i % 2) 0) (word ix v) 0) 0) d ∙ number-half n m (i % 2)
           ∙ sym (index_number P n (i % 2) m (omega arith)) ∙ ap (word (index_of P)) e
 
--- word i, where a is half of the constraints and b of the trimming
-pub lent-made : (ix : List ℕ) (s t c i a b : ℕ) → c ≤ 64 → i < 2 * (s + t) → a ≡ cond (eqb (i % 2) 0) (word ix (i / 2)) 0
-    → b ≡ cond (ltb (i / 2) s) (word_from (64 * (i % 2)) ((c + i / 2) ∷ [])) 0
-    → (P : Problem) → P.strings ≡ s → P.numbers ≡ t → length P.constraints ≡ c → Index P ix → bit_or a b ≡ word (index_of P) i
-lent-made ix s t c i a b few l ea eb P es et ec x =
-    let m : length P.constraints ≤ 64 = omega arith in
-    let k : i < 2 * (P.strings + P.numbers) = omega arith in
-    ap₂ bit_or ea (eb ∙ ap₂ (λ (s c : ℕ). cond (ltb (i / 2) s) (word_from (64 * (i % 2)) ((c + i / 2) ∷ [])) 0) (sym es) (sym ec)) ∙ lent-half P ix x m i k
-
 -- where the two words of a variable stand
 pub lent_at : (P : Problem) (v : Variable) → InRange P v → (h : ℕ) → h < 2 → word (index_of P) (2 * position P.strings v + h) ≡ word_from (64 * h) (touching P v)
 unfolding position
@@ -170,31 +163,38 @@ lent_at P (num n) r h l = index_number P n h r l
 
 -- ---- the index of a file
 
-module _ (file : List ℕ) (p : Parts) (u : Usable file p) where
-  pub lent_length : length (index_of (problem_in file p)) ≡ 2 * (p.s + p.t)
-  lent_length = let n = usable-counts file p u in omega (arith, index-length (problem_in file p), n.strings, n.numbers)
+module _ (p : accepted.Problem) where
+  counts : Counts p.file.now p.parts
+  counts = usable-counts p.file.now p.parts p.usable
 
-  pub lent-here : (ix : List ℕ) (i w : ℕ)
-      → ((P : Problem) → P.strings ≡ p.s → P.numbers ≡ p.t → length P.constraints ≡ p.c → Index P ix → w ≡ word (index_of P) i)
-      → Index (problem_in file p) ix → w ≡ word (index_of (problem_in file p)) i
-  lent-here ix i w f x = let n = usable-counts file p u in f (problem_in file p) n.strings n.numbers n.constraints x
+  pub lent_length : length (index_of (the_problem p)) ≡ 2 * (p.parts.s + p.parts.t)
+  lent_length = omega (arith, index-length (the_problem p), counts.strings, counts.numbers)
 
--- ---- a loop that compares two lists, word by word
+  -- word i, where a is half of the constraints and b of the trimming
+  pub lent-made : (ix : List ℕ) (i a b : ℕ) → i < 2 * (p.parts.s + p.parts.t) → a ≡ cond (eqb (i % 2) 0) (word ix (i / 2)) 0
+      → b ≡ cond (ltb (i / 2) p.parts.s) (word_from (64 * (i % 2)) ((p.parts.c + i / 2) ∷ [])) 0
+      → Index (the_problem p) ix → bit_or a b ≡ word (index_of (the_problem p)) i
+  lent-made ix i a b l ea eb x =
+      let P : Problem = the_problem p in
+      let m : length P.constraints ≤ 64 = omega (arith, counts.constraints, p.usable.fits.constraints-most) in
+      let k : i < 2 * (P.strings + P.numbers) = omega (arith, counts.strings, counts.numbers) in
+      let f : ℕ → ℕ → ℕ = λ (s c : ℕ). cond (ltb (i / 2) s) (word_from (64 * (i % 2)) ((c + i / 2) ∷ [])) 0 in
+      ap₂ bit_or ea (eb ∙ ap₂ f (sym counts.strings) (sym counts.constraints)) ∙ lent-half P ix x m i k
 
--- they have the same words before i
-pub record Agree (I J : List ℕ) (i : ℕ) : Type 0 where
-  pub agree : (k : ℕ) → k < i → word I k ≡ word J k
+-- ---- whether two lists have the same words, by what `all` says over their indices
 
-pub agree-start : (I J : List ℕ) → Agree I J 0
-agree-start I J = record { agree = λ k l. absurd (omega arith) }
+range-at : (n i : ℕ) → i < n → get_or (range_with_len 0 n) i 0 ≡ i
+range-at n i h = let e : 0 + i ≡ i = omega arith in get_or-range_with_len 0 n i 0 h ∙ e
 
-pub agree-step : (I J : List ℕ) (i : ℕ) → word I i ≡ word J i → Agree I J i → Agree I J (i + 1)
-agree-step I J i e a = record {
-  agree = λ k l. ⊎_elim (λ (q : k ≡ i). ap (word I) q ∙ e ∙ ap (word J) (sym q)) (λ (h : k < i). a.agree k h) (eq-or-lt_of_le (omega arith));
-}
-
-pub agree-all : (I J : List ℕ) (i : ℕ) → length I ≡ length J → length I ≤ i → Agree I J i → same I J ≡ true
-agree-all I J i e l a = subst (λ (K : List ℕ). same I K ≡ true) (ext_get_or 0 I J e (λ k h. a.agree k (omega arith))) (same_refl I)
-
-pub disagree : (I J : List ℕ) (i : ℕ) → word I i ≢ word J i → same I J ≡ false
-disagree I J i n = same_false I J (λ e. n (ap (λ (K : List ℕ). word K i) e))
+pub same_by : (I J : List ℕ) (r : Bool) → length I ≡ length J
+    → MatchBool r (AllWithin (λ i. word I i ≡ word J i) (range_with_len 0 (length I)) 0 (length (range_with_len 0 (length I))))
+    ((k : ℕ) × (k < length (range_with_len 0 (length I))) × HoldsAt (λ i. word I i ≢ word J i) (range_with_len 0 (length I)) k)
+    → r ≡ same I J
+same_by I J true e f =
+    let alike : (i : ℕ) → i < length I → word I i ≡ word J i =
+    λ i h. subst (λ (j : ℕ). word I j ≡ word J j) (range-at (length I) i h) (f i 0 (omega arith) (omega (arith, length-range_with_len 0 (length I)))) in
+    sym (subst (λ (K : List ℕ). same I K ≡ true) (ext_get_or 0 I J e alike) (same_refl I))
+same_by I J false e f =
+    let h : f.0 < length I = omega (arith, f.1, length-range_with_len 0 (length I)) in
+    let n : word I f.0 ≢ word J f.0 = subst (λ (j : ℕ). word I j ≢ word J j) (range-at (length I) f.0 h) (f.2 0) in
+    sym (same_false I J (λ q. n (ap (λ (K : List ℕ). word K f.0) q)))

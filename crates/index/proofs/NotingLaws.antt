@@ -4,7 +4,7 @@ use mathlib.Core.Logic.{⊎_elim}
 use mathlib.Core.Bool.{true, false≢true}
 use mathlib.Core.List.Memᴰ
 use mathlib.Core.List.{List}
-use mathlib.Core.Option.{some, none-ne-some, some-injective}
+use mathlib.Core.Option.{some}
 use Prim.Native.Nat.{ℕ, ◌+◌, ◌-◌, ◌*◌, ◌^◌, ◌≤◌, ◌<◌}
 use native.Mathlib.Nat.{eq-or-lt_of_le}
 use native.Mathlib.Omega.{arith}
@@ -19,17 +19,16 @@ use Rattle.laws.specs.Inclusion.{In}
 use Rattle.laws.proofs.ListLaws.{get_or-zeros}
 use Rattle.laws.proofs.WordLaws.{zero_bit, pow_self, pow-only}
 use Rattle.laws.proofs.ReadingLaws.{decode_range}
-use Rattle.layout.specs.declared.Parts.{Parts}
 use Rattle.records.specs.declared.Record.{Record}
-use Rattle.records.specs.declared.Decoded.{Decoded}
-use Rattle.records.specs.declared.Decoded.TheVariants.{Constraint as One, NotOne}
-use Rattle.records.specs.Records.{constraint_of, decoded_of}
-use Rattle.records.proofs.RecordLaws.{is-constraint, is_none}
-use Rattle.format.specs.Accepting.{problem_in, Usable}
-use Rattle.format.proofs.ContentLaws.{usable-counts, usable-record}
+use Rattle.records.specs.Records.{constraint_of}
+use Rattle.format.specs.declared.problem.Problem as accepted
+use Rattle.format.specs.Problems.{the_problem}
+use Rattle.format.proofs.ContentLaws.{Counts, usable-counts, usable-record}
 use Rattle.index.specs.Index.{position, Named, Index}
+use Rattle.index.specs.declared.positions.Positions.{Positions}
 use Rattle.index.specs.Joining.{positions, Fits, Joined}
-use Rattle.index.proofs.KindLaws.{range_fits}
+use Rattle.index.specs.Standing.{listed, Standing}
+use Rattle.index.proofs.KindLaws.{range_fits, standing-inside}
 
 -- nothing is noted yet
 pub noting_first : (P : Problem) → Named P 0 (replicate 32 0)
@@ -81,45 +80,35 @@ module _ (P : Problem) (j : ℕ) (r : Record) (e : constraint_of r ≡ get_or P.
         (m.only i k b);
   }
 
--- ---- the records of a file
+-- ---- the constraints of a file
 
-module _ (file : List ℕ) (p : Parts) where
+module _ (p : accepted.Problem) where
   abbrev P : Problem
-  P = problem_in file p
+  P = the_problem p
 
-  -- the bytes of the constraints, as they are lent
-  abbrev records : List ℕ
-  records = take (p.automata_at - p.constraints_at) (drop p.constraints_at file)
+  counts : Counts p.file.now p.parts
+  counts = usable-counts p.file.now p.parts p.usable
 
-  module _ (u : Usable file p) (j : ℕ) (less : j < p.c) (o : Decoded) (e : decoded_of o ≡ decode p.s p.t p.d (part (4 * j) 4 records)) where
-    -- each of them is a constraint
-    pub noting_all : {A : Type 0} → o ≡ NotOne → A
-    noting_all q = absurd (none-ne-some _ (sym (is_none e q) ∙ usable-record file p u j less))
+  module _ (j : ℕ) (less : j < p.parts.c) (r : Record) (e : constraint_of r ≡ get_or P.constraints j (always 0)) where
+    ranged : (v : Variable) → In v (variables (constraint_of r)) → InRange P v
+    ranged =
+        let q : decode P.strings P.numbers p.parts.d (part (4 * j) 4 (take (p.parts.automata_at - p.parts.constraints_at) (drop p.parts.constraints_at p.file.now))) ≡ some (constraint_of r) =
+        rw (counts.strings, counts.numbers, e) (usable-record p.file.now p.parts p.usable j less) in
+        decode_range P p.parts.d _ (constraint_of r) q
 
-    module _ (r : Record) (q : o ≡ One r) where
-      there : constraint_of r ≡ get_or P.constraints j (always 0)
-      there = some-injective _ _ (sym (is-constraint e q) ∙ usable-record file p u j less)
+    module _ (m : Positions) (at : Standing p.parts.s r m) where
+      pub noting_inside : (i : ℕ) → In i (listed m) → i < 32
+      noting_inside =
+          let s : P.strings ≤ 16 = omega (arith, counts.strings, p.usable.fits.strings-most) in
+          let t : P.numbers ≤ 16 = omega (arith, counts.numbers, p.usable.fits.numbers-most) in
+          standing-inside p.parts.s r m (subst (λ (k : ℕ). Fits k r) counts.strings (range_fits P r s t ranged)) at
 
-      ranged : (v : Variable) → In v (variables (constraint_of r)) → InRange P v
-      ranged =
-          let n = usable-counts file p u in
-          let f : decode P.strings P.numbers p.d (part (4 * j) 4 records) ≡ some (constraint_of r) = rw (n.strings, n.numbers) (is-constraint e q) in
-          decode_range P p.d _ (constraint_of r) f
+      pub noting_next : (b : ℕ) (ix jx : List ℕ) → b ≡ 2 ^ j → Named P j ix → Joined (listed m) b ix jx → Named P (j + 1) jx
+      noting_next b ix jx w n h =
+          let is : listed m ≡ positions P.strings r = at.are ∙ ap (λ (k : ℕ). positions k r) (sym counts.strings) in
+          noting_named P j r e ranged ix jx n (subst (λ (k : ℕ). Joined (positions P.strings r) k ix jx) w (subst (λ (is : List ℕ). Joined is b ix jx) is h))
 
-      pub noting_fits : (p.s ≤ 16) × Fits p.s r
-      noting_fits =
-          let n = usable-counts file p u in
-          let s : P.strings ≤ 16 = omega (arith, n.strings, u.fits.strings-most) in
-          let t : P.numbers ≤ 16 = omega (arith, n.numbers, u.fits.numbers-most) in
-          (u.fits.strings-most, subst (λ (k : ℕ). Fits k r) n.strings (range_fits P r s t ranged))
-
-      pub noting_next : (b : ℕ) (ix jx : List ℕ) → b ≡ 2 ^ j → Named P j ix → Joined (positions p.s r) b ix jx → Named P (j + 1) jx
-      noting_next b ix jx w n m =
-          let s = (usable-counts file p u).strings in
-          let here : Joined (positions P.strings r) b ix jx = subst (λ (k : ℕ). Joined (positions k r) b ix jx) (sym s) m in
-          noting_named P j r there ranged ix jx n (subst (λ (k : ℕ). Joined (positions P.strings r) k ix jx) w here)
-
-  pub noting_last : (j : ℕ) (ix : List ℕ) → Usable file p → j ≤ p.c → p.c ≤ j → Named P j ix → Index P ix
-  noting_last j ix u l h n =
-      let e : j ≡ length P.constraints = omega (arith, (usable-counts file p u).constraints) in
+  pub noting_last : (j : ℕ) (ix : List ℕ) → j ≤ p.parts.c → p.parts.c ≤ j → Named P j ix → Index P ix
+  noting_last j ix l h n =
+      let e : j ≡ length P.constraints = omega (arith, counts.constraints) in
       subst (λ (k : ℕ). Named P k ix) e n

@@ -20,3 +20,8 @@ pub record Named (P : Problem) (n : ℕ) (ix : List ℕ) : Type 0 where
 -- the whole index
 abbrev pub Index : Problem → List ℕ → Type 0
 Index P ix = Named P (length P.constraints) ix
+
+-- what waking asks of it, which has one proof at most: bit j of a variable's word is set where constraint j names the variable, and no word has bits but constraints'
+pub record Marked (P : Problem) (ix : List ℕ) : Type 0 where
+  pub names : (j : ℕ) → j < length P.constraints → (v : Variable) → In v (variables (get_or P.constraints j (always 0))) → bit (word ix (position P.strings v)) j ≡ true
+  pub inside : (i j : ℕ) → bit (word ix i) j ≡ true → j < length P.constraints

@@ -2,7 +2,7 @@
 use Rattle.std.specs.Prelude.{◌≡◌, List, ℕ, ◌+◌, ◌*◌, ◌≤◌, take}
 use Rattle.laws.specs.Inclusion.{In}
 use Rattle.records.specs.declared.Record.{Record}
-use Rattle.index.specs.declared.Positions.{Positions}
+use Rattle.index.specs.declared.positions.Positions.{Positions}
 use Rattle.index.specs.Joining.{positions}
 
 -- the positions that m lists
@@ -11,10 +11,8 @@ listed m = take m.count m.at
 
 -- m lists where the variables that r names stand, in a problem of s strings
 pub record Standing (s : ℕ) (r : Record) (m : Positions) : Type 0 where
-  pub most : m.count ≤ 3
   pub are : listed m ≡ positions s r
 
 -- a lent index of n words has both words of each variable that m lists
 pub record Lent (m : Positions) (n : ℕ) : Type 0 where
-  pub most : m.count ≤ 3
   pub inside : (i : ℕ) → In i (listed m) → 2 * i + 2 ≤ n

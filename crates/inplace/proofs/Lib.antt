@@ -11,3 +11,4 @@ pub mod Writing
 pub mod Replacing
 pub mod MeetsLaws
 pub mod Supported
+pub mod AddLaws

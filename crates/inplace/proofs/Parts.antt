@@ -1,5 +1,6 @@
 -- Rows that a relation has met up to some place, cut to the lengths that stay: each is the trimmed row of the relation's law, and its flag is right. Two rows
 -- so cut are a step in place. Rows that lose lengths alone are such rows. Assumes nothing.
+use Rattle.std.specs.Prelude.{Some}
 use mathlib.Core.Path.{◌≡◌, refl, sym, ap, ap₂, subst, ◌∙◌}
 use mathlib.Core.Logic.{◌≢◌}
 use mathlib.Core.Bool.{Bool, true, false, ◌||◌, false≢true}
@@ -89,7 +90,7 @@ module _ (d : Constraint) (T : List ℕ) (x y : ℕ) (ne : y ≢ x) (T₁ : List
     pair-second some = part-ready T y T₁ Y n ks cy part-y T₂ (sx.only.size ∙ size) same-y some
 
     pub pair_left : trimmed X ++ trimmed Y ≡ narrowed (alone 2 0 []) d (row T x ++ row T y) → (U : List ℕ) (q : Bool) → Shortened T₂ y ks U q → (cx' cy' : Bool)
-        → cx' ≡ (cx || p) → cy' ≡ (cy || q) → InPlace [] d (x ∷ y ∷ []) [] T U (record { left = true; x = cx'; y = cy'; z = false })
+        → cx' ≡ (cx || p) → cy' ≡ (cy || q) → InPlace [] d (x ∷ y ∷ []) [] T U (Some (record { x = cx'; y = cy'; z = false }))
     pair_left e U q sy cx' cy' ex ey =
         let f = part-x.fits in
         let l = sx.only.size in

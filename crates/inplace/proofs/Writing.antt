@@ -19,7 +19,7 @@ use Rattle.inplace.proofs.Sides.{Side, side-of}
 pub written_start : (T : List ℕ) (a : ℕ) (f : ℕ → ℕ) → Written T a f 0 T false
 written_start T a f = record { size = refl; low = λ i h. absurd (omega arith); kept = λ k h. refl; flag = changed-none _ _ }
 
--- a turn, by what `put` and `either` ensure
+-- a turn, by what `put` ensures
 pub written-turn : (T : List ℕ) (a : ℕ) (f : ℕ → ℕ) (n : ℕ) (U : List ℕ) (c : Bool) → Written T a f n U c → suc (a + n) < length T → (w : ℕ) → w ≡ f n
     → (U₁ : List ℕ) (p c' : Bool)
     → (U₁ ≡ set U (a + n + 1) w) × (p ≡ not (eqb (word U (a + n + 1)) w)) → c' ≡ (c || p) → Written T a f (n + 1) U₁ c'

@@ -2,3 +2,4 @@
 pub mod InTable
 pub mod InPlace
 pub mod Written
+pub mod Adding

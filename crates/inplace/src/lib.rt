@@ -8,21 +8,21 @@ ghost use Rattle.std.specs.Prelude.{◌≡◌, false, not, ◌||◌, suc, ◌<�
 ghost use Rattle.model.specs.Words.{word};
 ghost use Rattle.model.specs.Domains.{row};
 ghost use Rattle.inplace.specs.InTable.{Ran, Cleared, Ready, Shortened, Trimmed, Apart, Meet, Meets};
+ghost use Rattle.inplace.specs.Adding.{Added};
 ghost use Rattle.inplace.specs.Written.{Written, Replacing, Replaced};
 
-// How many places after a, of at most lim, each allow a symbol.
+// How many places after a, of at most lim, each allow a symbol. `meets` asks the same of two rows together: one function that both hand a closure for the word is as
+// long as these two loops.
 pub fn run(t: &[u64], a: usize, lim: usize) -> usize
     requires { a + lim < length t.now }
     ensures { Ran t.now a lim result }
 {
-    let mut m: usize = 0;
-    while m < lim {
+    for m in 0..lim {
         if t[a + m + 1] == 0 {
             return m;
         }
-        m += 1;
     }
-    m
+    lim
 }
 
 // Strikes every symbol at the places after a from top on, up to end.
@@ -30,11 +30,7 @@ pub fn clear(t: &mut [u64], a: usize, top: usize, end: usize)
     requires { (top ≤ end) × (a + end < length t.old) }
     ensures { Cleared t.old a top end t.new }
 {
-    let mut i = top;
-    while i < end {
-        t[a + i + 1] = 0;
-        i += 1;
-    }
+    t[a + top + 1..a + end + 1].fill(0);
 }
 
 // Leaves string x these lengths alone; whether it had others.
@@ -71,15 +67,6 @@ pub fn tidy(t: &mut [u64], x: usize) -> bool
     true
 }
 
-pub fn either(a: bool, b: bool) -> bool
-    ensures { result ≡ (a || b) }
-{
-    if a {
-        return true;
-    }
-    b
-}
-
 // Writes a word; whether it was another.
 pub fn put(t: &mut [u64], i: usize, w: u64) -> bool
     requires { i < length t.old }
@@ -92,7 +79,7 @@ pub fn put(t: &mut [u64], i: usize, w: u64) -> bool
     true
 }
 
-// How many places met, and which side lost a bit.
+// How many places met, and which side lost a bit. No Option: where the places stop meeting, Eq keeps the lengths up to there.
 #[derive(Clone, Copy)]
 pub struct Met {
     pub m: usize,
@@ -105,19 +92,17 @@ pub fn meet(t: &mut [u64], a: usize, b: usize, lim: usize) -> Met
     requires { (a + lim < length t.old) × (b + lim < length t.old) × Apart a b lim }
     ensures { Meet t.old a b lim t.new result.m result.x result.y }
 {
-    let mut m: usize = 0;
     let mut x = false;
     let mut y = false;
-    while m < lim {
+    for m in 0..lim {
         let w = t[a + m + 1] & t[b + m + 1];
         if w == 0 {
             return Met { m, x, y };
         }
-        x = either(x, put(t, a + m + 1, w));
-        y = either(y, put(t, b + m + 1, w));
-        m += 1;
+        x |= put(t, a + m + 1, w);
+        y |= put(t, b + m + 1, w);
     }
-    Met { m, x, y }
+    Met { m: lim, x, y }
 }
 
 // How many places after a and after b, of at most lim, allow a symbol together.
@@ -125,14 +110,22 @@ pub fn meets(t: &[u64], a: usize, b: usize, lim: usize) -> usize
     requires { (a + lim < length t.now) × (b + lim < length t.now) }
     ensures { Meets t.now a b lim result }
 {
-    let mut m: usize = 0;
-    while m < lim {
+    for m in 0..lim {
         if t[a + m + 1] & t[b + m + 1] == 0 {
             return m;
         }
-        m += 1;
     }
-    m
+    lim
+}
+
+// Adds to n places after c of a row beside the table what the places after a and after b both allow.
+pub fn add(r: &mut [u64; 64], c: usize, t: &[u64], a: usize, b: usize, n: usize)
+    requires { (c + n < 64) × (a + n < length t.now) × (b + n < length t.now) }
+    ensures { Added r.old c t.now a b n r.new }
+{
+    for i in 0..n {
+        r[c + i + 1] |= t[a + i + 1] & t[b + i + 1];
+    }
 }
 
 // Makes n places after a those of r after b; whether one of them was another.
@@ -141,10 +134,8 @@ fn write(t: &mut [u64], a: usize, r: &[u64], b: usize, n: usize) -> bool
     ensures { Written t.old a (λ i. word r.now (suc (b + i))) n t.new result }
 {
     let mut changed = false;
-    let mut i: usize = 0;
-    while i < n {
-        changed = either(changed, put(t, a + i + 1, r[b + i + 1]));
-        i += 1;
+    for i in 0..n {
+        changed |= put(t, a + i + 1, r[b + i + 1]);
     }
     changed
 }
@@ -155,28 +146,16 @@ pub fn replace(t: &mut [u64], x: usize, r: &[u64], j: usize) -> bool
     ensures { Replaced t.old x (row r.now j) t.new result }
 {
     let lengths = r[64 * j];
-    let c = write(t, 64 * x, r, 64 * j, words::highest(lengths));
-    either(c, shorten(t, x, lengths))
+    let mut changed = write(t, 64 * x, r, 64 * j, words::highest(lengths));
+    changed |= shorten(t, x, lengths);
+    changed
 }
 
-// What a step in place leaves: whether there is a choice, and, where there is one, which arguments of the constraint lost a bit, in their order. An argument that is
-// no variable loses none.
+// Which arguments of the constraint lost a bit by a step in place, in their order. An argument that is no variable loses none. A step answers None where it leaves no
+// choice.
 #[derive(Clone, Copy)]
-pub struct Change {
-    pub left: bool,
+pub struct Changed {
     pub x: bool,
     pub y: bool,
     pub z: bool,
-}
-
-// No choice.
-pub fn nothing() -> Change
-    ensures { result.left ≡ false }
-{
-    Change {
-        left: false,
-        x: false,
-        y: false,
-        z: false,
-    }
 }

@@ -2,6 +2,7 @@
 use mathlib.Core.Path.{◌≡◌, refl, sym, ap, ◌∙◌}
 use mathlib.Core.Bool.{true, false}
 use mathlib.Core.List.{List}
+use Rattle.std.specs.Prelude.{Ok, Err}
 use Prim.Native.Nat.{ℕ, ◌+◌, ◌-◌, ◌*◌, ◌≤◌, ◌<◌}
 use native.Mathlib.Omega.{arith}
 use lib.ListN.{length}
@@ -12,7 +13,7 @@ use Rattle.model.specs.Layout as model
 use Rattle.model.specs.Layout.{back, trailer, tail, in_bounds, table_words, abutting, layout}
 use Rattle.laws.proofs.LayoutLaws.{Fitting, abutting-fits, fitting-parts, layout-parts}
 use Rattle.layout.specs.declared.Trailer.{Trailer}
-use Rattle.layout.specs.declared.Layout.TheVariants.{Refused, Laid}
+use Rattle.refusals.specs.declared.Refusal.TheVariants.{FileLength, Mark, Counts, Layout}
 use Rattle.layout.specs.Heads.{head_of, placed}
 use Rattle.layout.specs.Replied.{parts_of, reply_of, PartsFit}
 
@@ -30,12 +31,12 @@ module _ (file : List ℕ) where
     automata_bytes = back file H.automata_back H.automata_back;
   })
 
-  pub short-refused : length file < 24 → reply_of file (Refused 1) ≡ layout file
+  pub short-refused : length file < 24 → reply_of file (Err FileLength) ≡ layout file
   unfolding reply_of layout require
   short-refused l = simp (lt-leb 24 (length file) l)
 
   module _ (long : 24 ≤ length file) where
-    pub unmarked-refused : same (trailer file).mark tail ≡ false → reply_of file (Refused 2) ≡ layout file
+    pub unmarked-refused : same (trailer file).mark tail ≡ false → reply_of file (Err Mark) ≡ layout file
     unfolding reply_of layout require
     unmarked-refused f = simp (le-leb 24 (length file) long, f)
 
@@ -48,12 +49,12 @@ module _ (file : List ℕ) where
       unfolding head_of abutting
       same-abutting = ap (abutting (length file)) (sym e)
 
-      pub unbounded_refused : in_bounds (head_of tail h) ≡ false → reply_of file (Refused 3) ≡ layout file
+      pub unbounded_refused : in_bounds (head_of tail h) ≡ false → reply_of file (Err Counts) ≡ layout file
       unfolding reply_of layout require
       unbounded_refused f = simp (le-leb 24 (length file) long, marked, same-bounds, f)
 
       module _ (bounded : in_bounds (head_of tail h) ≡ true) where
-        pub unfitting_refused : abutting (length file) (head_of tail h) ≡ false → reply_of file (Refused 4) ≡ layout file
+        pub unfitting_refused : abutting (length file) (head_of tail h) ≡ false → reply_of file (Err Layout) ≡ layout file
         unfolding reply_of layout require
         unfitting_refused f = simp (le-leb 24 (length file) long, marked, same-bounds, bounded, same-abutting, f)
 
@@ -65,7 +66,7 @@ module _ (file : List ℕ) where
           unfolding head_of layout require
           answers = ap answer_of e ∙ sym (simp (le-leb 24 (length file) long, marked, same-bounds, bounded, same-abutting, abuts))
 
-          pub laid-answered : reply_of file (Laid (placed h (length file - 24))) ≡ layout file
+          pub laid-answered : reply_of file (Ok (placed h (length file - 24))) ≡ layout file
           unfolding reply_of parts_of placed head_of
           laid-answered =
               let e₂ : h.table ≡ 8 * (64 * h.s + h.t) + 4 * h.c + h.automata = fitting.table-back in

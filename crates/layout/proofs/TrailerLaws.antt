@@ -1,52 +1,49 @@
 -- The trailer: its mark byte by byte, the trailer from its numbers, and its tests one after the other. Assumes nothing.
-use mathlib.Core.Path.{◌≡◌, sym, ap, ◌∙◌}
-use mathlib.Core.Logic.{◌≢◌}
-use mathlib.Core.Bool.{true, false, ◌&&◌, and-true, and-false}
+use mathlib.Core.Path.{◌≡◌, refl, sym, ap, ◌∙◌}
 use mathlib.Core.List.{List, [], ◌∷◌}
-use Prim.Native.Nat.{ℕ, ◌+◌, ◌-◌, ◌*◌, ◌≤◌}
+use Prim.Native.Nat.{ℕ, ◌+◌, ◌-◌, ◌≤◌}
 use native.Mathlib.Omega.{arith}
 use lib.Dec.{eqb}
-use lib.ListN.{length, get_or}
-use lib.Seq.{drop-drop, get_or-drop}
-use borrow.Author.Tests.{le-leb, eq-eqb, ne_eqb}
+use lib.ListN.{length, drop}
+use lib.Pointwise.{pointwise}
+use Rattle.std.specs.List.{ends_with}
+use Rattle.std.proofs.lemmas.List.{length-drop, take_all}
+use Rattle.std.proofs.lemmas.Bool.Decides.{nat_tests}
+use lib.Seq.{get_or-drop}
+use Rattle.std.proofs.lemmas.List.{drop-drop}
 use Rattle.model.specs.Lists.{same}
-use Rattle.model.specs.Layout.{little, part, trailer, tail, in_bounds, abutting}
+use Rattle.model.specs.Layout.{little, part, trailer, tail}
 use Rattle.layout.specs.declared.Trailer.{Trailer}
 use Rattle.layout.specs.Heads.{head_of}
-use Rattle.little.proofs.LittleLaws.{part-next}
 use Rattle.reader.proofs.NumberLaws.{little-one}
 
 -- where the trailer starts
 abbrev start : List ℕ → ℕ
 start file = length file - 24
 
+eqb_turned : (a b : ℕ) → eqb a b ≡ eqb b a
+eqb_turned a b = grind (arith, nat_tests)
+
+-- how std compares two slices
+pointwise-same : (xs ys : List ℕ) → pointwise eqb ys xs ≡ same xs ys
+unfolding same
+pointwise-same [] [] = refl
+pointwise-same [] (y ∷ ys) = refl
+pointwise-same (x ∷ xs) [] = refl
+pointwise-same (x ∷ xs) (y ∷ ys) = rw (eqb_turned y x, pointwise-same xs ys) refl
+
 module _ (file : List ℕ) where
-  module _ (long : 24 ≤ length file) where
-    mark-bytes : (trailer file).mark
-        ≡ get_or file (start file + 20) 0 ∷ get_or file (start file + 21) 0 ∷ get_or file (start file + 22) 0 ∷ get_or file (start file + 23) 0 ∷ []
-    unfolding trailer
-    mark-bytes =
-        let at = start file in
-        rw (drop-drop 20 at file, part-next file at 20 3 (omega arith), part-next file at 21 2 (omega arith), part-next file at 22 1 (omega arith), part-next file at 23 0 (omega arith))
+  -- the mark is the last four bytes
+  mark-last : 24 ≤ length file → (trailer file).mark ≡ drop (length file - 4) file
+  unfolding trailer
+  mark-last long =
+      let at : length file - 24 + 20 ≡ length file - 4 = omega arith in
+      let size : length (drop (length file - 4) file) ≤ 4 = omega (arith, length-drop (length file - 4) file) in
+      rw (drop-drop 20 (start file) file, at) (take_all 4 (drop (length file - 4) file) size)
 
-    mark-test : same (trailer file).mark tail
-        ≡ (eqb (get_or file (start file + 20) 0) 84
-        && (eqb (get_or file (start file + 21) 0) 65 && (eqb (get_or file (start file + 22) 0) 73 && (eqb (get_or file (start file + 23) 0) 76 && true))))
-    unfolding same
-    mark-test = ap (λ (bs : List ℕ). same bs tail) mark-bytes
-
-    pub no-first : get_or file (start file + 20) 0 ≢ 84 → false ≡ same (trailer file).mark tail
-    no-first d = sym (mark-test ∙ simp (ne_eqb _ _ d))
-
-    pub no_second : get_or file (start file + 21) 0 ≢ 65 → false ≡ same (trailer file).mark tail
-    no_second d = sym (mark-test ∙ simp (ne_eqb _ _ d, and-false))
-
-    pub no_third : get_or file (start file + 22) 0 ≢ 73 → false ≡ same (trailer file).mark tail
-    no_third d = sym (mark-test ∙ simp (ne_eqb _ _ d, and-false))
-
-    pub last_decides : get_or file (start file + 20) 0 ≡ 84 → get_or file (start file + 21) 0 ≡ 65 → get_or file (start file + 22) 0 ≡ 73
-        → eqb (get_or file (start file + 23) 0) 76 ≡ same (trailer file).mark tail
-    last_decides first second third = sym (mark-test ∙ simp (eq-eqb _ _ first, eq-eqb _ _ second, eq-eqb _ _ third, and-true))
+  -- a file ends in the mark just where its trailer has it
+  pub mark-ends : 24 ≤ length file → ends_with eqb file tail ≡ same (trailer file).mark tail
+  mark-ends long = pointwise-same (drop (length file - 4) file) tail ∙ ap (λ (bs : List ℕ). same bs tail) (sym (mark-last long))
 
   -- the numbers read one after the other make the trailer
   pub trailer-numbers : (h : Trailer)
@@ -72,15 +69,3 @@ module _ (file : List ℕ) where
       let e₁₂ : at + 8 + 4 ≡ at + 12 = omega arith in
       let e₁₆ : at + 12 + 4 ≡ at + 16 = omega arith in
       rw (k, s, t, d, c, spare, table, constraints, automata) (simp (e₂, e₃, e₄, e₆, e₈, e₁₂, e₁₆, little-one, drop-drop, get_or-drop, e₀))
-
--- ---- the tests of refusals 3 and 4, where all but the last have passed
-
-module _ (h : Trailer) where
-  pub spare_decides : 1 ≤ h.k → h.k ≤ 64 → h.s ≤ 16 → h.t ≤ 16 → h.d ≤ 8 → h.c ≤ 64 → eqb h.spare 0 ≡ in_bounds (head_of tail h)
-  unfolding in_bounds head_of
-  spare_decides k₁ k₂ s t d c = simp (le-leb _ _ k₁, le-leb _ _ k₂, le-leb _ _ s, le-leb _ _ t, le-leb _ _ d, le-leb _ _ c)
-
-  pub size_decides : (size : ℕ) → h.constraints ≡ 4 * h.c + h.automata → h.table ≡ 8 * (64 * h.s + h.t) + 4 * h.c + h.automata
-      → eqb size (h.table + 24) ≡ abutting size (head_of tail h)
-  unfolding abutting head_of
-  size_decides size constraints table = simp (eq-eqb _ _ constraints, eq-eqb _ _ table)

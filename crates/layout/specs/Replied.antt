@@ -1,10 +1,10 @@
 -- What a layout says: the model's reply, with the bytes of the file at its numbers, and that its parts fit the file. Assumes nothing.
-use Rattle.std.specs.Prelude.{◌≡◌, List, ℕ, ◌+◌, ◌-◌, ◌*◌, ◌≤◌, length}
+use Rattle.std.specs.Prelude.{◌≡◌, List, ℕ, ◌+◌, ◌-◌, ◌*◌, ◌≤◌, length, Result, Ok, Err}
 use Rattle.model.specs.Replies.{Reply, refused, answered}
 use Rattle.model.specs.Layout as model
 use Rattle.layout.specs.declared.Parts.{Parts}
-use Rattle.layout.specs.declared.Layout.{Layout}
-use Rattle.layout.specs.declared.Layout.TheVariants.{Refused, Laid}
+use Rattle.refusals.specs.declared.Refusal.{Refusal}
+use Rattle.refusals.specs.Numbers.{number}
 
 -- the model's parts: these counts, and the bytes of the file that lie there
 unfoldable pub parts_of : List ℕ → Parts → model.Parts
@@ -20,10 +20,10 @@ parts_of file p =
       automata_bytes = model.part p.automata_at (p.end - p.automata_at) file;
     }
 
--- the reply of the model that a layout stands for, with the bytes of the file
-unfoldable pub reply_of : List ℕ → Layout → Reply model.Parts
-reply_of file (Refused n) = refused n
-reply_of file (Laid p) = answered (parts_of file p)
+-- the reply of the model that an answer stands for, by the paper's number of a refusal, with the bytes of the file
+unfoldable pub reply_of : List ℕ → Result Parts Refusal → Reply model.Parts
+reply_of file (Err e) = refused (number e)
+reply_of file (Ok p) = answered (parts_of file p)
 
 -- each part begins where the one before ends, all lie before the trailer, and the counts are in range
 pub record PartsFit (file : List ℕ) (p : Parts) : Type 0 where
@@ -39,6 +39,6 @@ pub record PartsFit (file : List ℕ) (p : Parts) : Type 0 where
   pub constraints-most : p.c ≤ 64
 
 -- parts that are laid fit
-abbrev pub Fitted : List ℕ → Layout → Type 0
-Fitted file (Refused n) = Unit {0}
-Fitted file (Laid p) = PartsFit file p
+abbrev pub Fitted : List ℕ → Result Parts Refusal → Type 0
+Fitted file (Err e) = Unit {0}
+Fitted file (Ok p) = PartsFit file p

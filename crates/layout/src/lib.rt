@@ -12,6 +12,7 @@ ghost use Rattle.layout.specs.Heads.{head_of, placed};
 ghost use Rattle.layout.specs.Replied.{reply_of, Fitted};
 
 use reader::Reader;
+use refusals::Refusal;
 
 // The counts of symbols, strings, numbers, automata and constraints, and where the parts lie: the table from byte 0 on, constraints and automata where said,
 // and the trailer at `end`.
@@ -25,13 +26,6 @@ pub struct Parts {
     pub constraints_at: usize,
     pub automata_at: usize,
     pub end: usize,
-}
-
-// The paper's number of the refusal, or the parts.
-#[derive(Clone, Copy)]
-pub enum Layout {
-    Refused(u8),
-    Laid(Parts),
 }
 
 // The numbers of the trailer, in its order. The last three are distances from its first byte back.
@@ -53,129 +47,97 @@ fn marked(file: &[u8]) -> bool
     requires { 24 ≤ length file.now }
     ensures { result ≡ same (trailer file.now).mark tail }
 {
-    let at = file.len() - 24;
-    if file[at + 20] != b'T' {
-        return false;
-    }
-    if file[at + 21] != b'A' {
-        return false;
-    }
-    if file[at + 22] != b'I' {
-        return false;
-    }
-    file[at + 23] == b'L'
+    file.ends_with(b"TAIL")
 }
 
-// The trailer's numbers, one after the other from its first byte on.
-fn read(file: &[u8]) -> Trailer
-    requires { 24 ≤ length file.now }
-    ensures { head_of (trailer file.now).mark result ≡ trailer file.now }
-{
-    let start = Reader {
-        bytes: file,
-        at: file.len() - 24,
-        number: 0,
-    };
-    let k = reader::next(start, 1);
-    let s = reader::next(k, 1);
-    let t = reader::next(s, 1);
-    let d = reader::next(t, 1);
-    let c = reader::next(d, 2);
-    let spare = reader::next(c, 2);
-    let table = reader::next(spare, 4);
-    let constraints = reader::next(table, 4);
-    let automata = reader::next(constraints, 4);
-    Trailer {
-        k: k.number,
-        s: s.number,
-        t: t.number,
-        d: d.number,
-        c: c.number,
-        spare: spare.number,
-        table: table.number,
-        constraints: constraints.number,
-        automata: automata.number,
+impl Trailer {
+    // The trailer's numbers, one after the other from its first byte on.
+    fn read(file: &[u8]) -> Trailer
+        requires { 24 ≤ length file.now }
+        ensures { head_of (trailer file.now).mark result ≡ trailer file.now }
+    {
+        let mut reader = Reader {
+            bytes: file,
+            at: file.len() - 24,
+        };
+        Trailer {
+            k: reader.next(1),
+            s: reader.next(1),
+            t: reader.next(1),
+            d: reader.next(1),
+            c: reader.next(2),
+            spare: reader.next(2),
+            table: reader.next(4),
+            constraints: reader.next(4),
+            automata: reader.next(4),
+        }
     }
-}
 
-// Whether the counts are in range, and bytes 6 and 7 are 0.
-fn in_bounds(h: Trailer) -> bool
-    ensures { result ≡ in_bounds (head_of tail h) }
-{
-    if h.k < 1 {
-        return false;
+    // Whether the counts are in range, and bytes 6 and 7 are 0.
+    #[tactic(auto, unfolding(model::specs::Layout::in_bounds, crate::specs::Heads::head_of))]
+    fn in_bounds(&self) -> bool
+        ensures { result ≡ in_bounds (head_of tail self.now) }
+    {
+        (1..=64).contains(&self.k)
+            && self.s <= 16
+            && self.t <= 16
+            && self.d <= 8
+            && self.c <= 64
+            && self.spare == 0
     }
-    if h.k > 64 {
-        return false;
-    }
-    if h.s > 16 {
-        return false;
-    }
-    if h.t > 16 {
-        return false;
-    }
-    if h.d > 8 {
-        return false;
-    }
-    if h.c > 64 {
-        return false;
-    }
-    h.spare == 0
-}
 
-// Whether each distance is that of parts that abut, in a file of this size.
-fn abut(h: Trailer, size: usize) -> bool
-    ensures { result ≡ abutting size (head_of tail h) }
-{
-    let records = 4 * (h.c as usize);
-    let words = 64 * (h.s as usize) + h.t as usize;
-    let back = h.automata as usize;
-    if h.constraints as usize != records + back {
-        return false;
+    // Whether each distance is that of parts that abut, in a file of this size.
+    #[tactic(auto, unfolding(model::specs::Layout::abutting, crate::specs::Heads::head_of))]
+    fn abuts(&self, size: usize) -> bool
+        ensures { result ≡ abutting size (head_of tail self.now) }
+    {
+        let records = 4 * self.c as usize;
+        let words = 64 * self.s as usize + self.t as usize;
+        let back = self.automata as usize;
+        self.constraints as usize == records + back
+            && self.table as usize == 8 * words + records + back
+            && size == self.table as usize + 24
     }
-    if h.table as usize != 8 * words + records + back {
-        return false;
-    }
-    size == h.table as usize + 24
-}
 
-// Where the parts lie, in a file whose trailer starts at `end`.
-fn place(h: Trailer, end: usize) -> Parts
-    ensures { result ≡ placed h end }
-{
-    let s = h.s as usize;
-    let t = h.t as usize;
-    let c = h.c as usize;
-    let constraints_at = 8 * (64 * s + t);
-    Parts {
-        k: h.k as usize,
-        s,
-        t,
-        d: h.d as usize,
-        c,
-        constraints_at,
-        automata_at: constraints_at + 4 * c,
-        end,
+    // Where the parts lie, in a file whose trailer starts at `end`.
+    #[tactic(auto, unfolding(crate::specs::Heads::placed))]
+    fn place(&self, end: usize) -> Parts
+        ensures { result ≡ placed self.now end }
+    {
+        let s = self.s as usize;
+        let t = self.t as usize;
+        let c = self.c as usize;
+        let constraints_at = 8 * (64 * s + t);
+        Parts {
+            k: self.k as usize,
+            s,
+            t,
+            d: self.d as usize,
+            c,
+            constraints_at,
+            automata_at: constraints_at + 4 * c,
+            end,
+        }
     }
 }
 
 // The parts of a file, or the first of the refusals 1 to 4.
-pub fn of_file(file: &[u8]) -> Layout
+pub fn of_file(file: &[u8]) -> Result<Parts, Refusal>
     ensures result_value { reply_of file.now result ≡ layout file.now }
     ensures fitted { Fitted file.now result }
 {
     if file.len() < 24 {
-        return Layout::Refused(1);
+        return Err(Refusal::FileLength);
     }
     if !marked(file) {
-        return Layout::Refused(2);
+        return Err(Refusal::Mark);
     }
-    let h = read(file);
-    if !in_bounds(h) {
-        return Layout::Refused(3);
+    let h = Trailer::read(file);
+    if !h.in_bounds() {
+        return Err(Refusal::Counts);
     }
-    if !abut(h, file.len()) {
-        return Layout::Refused(4);
+    if !h.abuts(file.len()) {
+        return Err(Refusal::Layout);
     }
-    Layout::Laid(place(h, file.len() - 24))
+    Ok(h.place(file.len() - 24))
 }

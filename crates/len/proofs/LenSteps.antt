@@ -1,7 +1,8 @@
 -- Len in place: the lengths of the row and the values of the number become what both allow. Assumes nothing.
+use Rattle.std.specs.Prelude.{Some, None}
 use mathlib.Core.Path.{◌≡◌, refl, sym, ap, ap₂, ◌∙◌}
 use mathlib.Core.Logic.{◌≢◌}
-use mathlib.Core.Bool.{Bool, true, false, not}
+use mathlib.Core.Bool.{Bool, false, not}
 use mathlib.Core.List.{List, [], ◌∷◌, ◌++◌}
 use Prim.Native.Nat.{ℕ, ◌+◌, ◌*◌, ◌^◌, ◌≤◌, ◌<◌}
 use native.Mathlib.Omega.{arith}
@@ -19,7 +20,6 @@ use Rattle.laws.proofs.ShiftLaws.{of-and-bit}
 use Rattle.laws.proofs.DomainLaws.{row-length, row_words}
 use Rattle.inplace.specs.InTable.{Tidy, Ready, Shortened}
 use Rattle.inplace.specs.InPlace.{InPlace}
-use Rattle.inplace.specs.declared.Change.{Change}
 use Rattle.inplace.proofs.Reach.{empty-none}
 use Rattle.inplace.proofs.Tables.{row_first, same_row, only_out}
 use Rattle.inplace.proofs.Shapes.{counted-left, counted_none}
@@ -42,7 +42,7 @@ module _ (T : List ℕ) (x i : ℕ) (fx : 64 * x + 64 ≤ i) (fi : i < length T)
       ∙ len-narrowed (row T x) (word T i) (row-length T x (omega arith)) (row_words T bd x) bi
 
   module _ (tx : Tidy (row T x)) where
-    pub len-none : ls ≡ 0 → (r : Change) → r.left ≡ false → InPlace [] (len 0 0) (x ∷ []) (i ∷ []) T T r
+    pub len-none : ls ≡ 0 → InPlace [] (len 0 0) (x ∷ []) (i ∷ []) T T None
     len-none z = counted_none (len 0 0) x i T T refl (λ k f g. refl)
         (ap (λ (r : List ℕ). r ++ (word r 0 ∷ []))
         (empty-none M (fewer-words T x (omega arith) bd tx ls within) (fewer-length T x (omega arith) bd tx ls within)
@@ -66,7 +66,7 @@ module _ (T : List ℕ) (x i : ℕ) (fx : 64 * x + 64 ≤ i) (fi : i < length T)
       len-ready = part-ready T x T₁ M tx.top ls false part T₁ size₁ refl
 
       pub len-some : (U : List ℕ) (p : Bool) → Shortened T₁ x ls U p
-          → InPlace [] (len 0 0) (x ∷ []) (i ∷ []) T U (record { left = true; x = p; y = n; z = false })
+          → InPlace [] (len 0 0) (x ∷ []) (i ∷ []) T U (Some (record { x = p; y = n; z = false }))
       len-some U p s =
           let number : word U i ≡ ls = s.only.after i fx ∙ ap (λ (L : List ℕ). word L i) put.0 ∙ get_or-set_same T i ls 0 fi in
           let e = part-row T x T₁ M tx.top ls false part T₁ size₁ refl U U p s refl in

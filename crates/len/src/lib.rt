@@ -11,20 +11,19 @@ ghost use Rattle.inplace.specs.InTable.{Tidy};
 ghost use Rattle.inplace.specs.InPlace.{InPlace};
 
 // One narrowing step, where N has word i: a length of X is a value of N. Of a tidy row each length has a string, so both words become what both allow.
-pub fn narrow(t: &mut [u64], x: usize, i: usize) -> inplace::Change
+pub fn narrow(t: &mut [u64], x: usize, i: usize) -> Option<inplace::Changed>
     requires { (64 * x + 64 ≤ i) × (i < length t.old) × Tidy (row t.old x) }
     ensures { InPlace [] (len 0 0) (x ∷ []) (i ∷ []) t.old t.new result }
 {
     let lengths = t[64 * x] & t[i];
     if lengths == 0 {
-        return inplace::nothing();
+        return None;
     }
     let fewer = inplace::put(t, i, lengths);
     let shorter = inplace::shorten(t, x, lengths);
-    inplace::Change {
-        left: true,
+    Some(inplace::Changed {
         x: shorter,
         y: fewer,
         z: false,
-    }
+    })
 }

@@ -2,15 +2,16 @@
 use mathlib.Core.Path.{◌≡◌, refl, ap}
 use mathlib.Core.Bool.{Bool, true, false, cond}
 use mathlib.Core.List.{List, [], ◌∷◌, ◌++◌}
-use Prim.Native.Nat.{ℕ, zero, suc, ◌+◌, ◌*◌, ◌/◌, ◌%◌, ◌^◌, ◌≤◌, ◌<◌}
+use Prim.Native.Nat.{ℕ, zero, suc, ◌*◌, ◌/◌, ◌%◌, ◌^◌, ◌≤◌, ◌<◌}
 use native.Mathlib.Omega.{arith}
 use native.Mathlib.Nat.{pow-suc}
 use lib.Dec.{ltb}
-use lib.ListN.{length, set, length-append}
+use lib.ListN.{length, length-append}
 use borrow.Author.Tests.{ltb-true, ltb-false, lt-ltb, le-ltb}
 use Rattle.model.specs.Listing.{digit, decimal_in, decimal}
+use Rattle.listing.specs.declared.Page.{Page}
 use Rattle.listing.specs.Writing.{Capacity, Wrote}
-use Rattle.listing.proofs.WritingLaws.{wrote_append, wrote_byte, capacity_first, capacity_rest}
+use Rattle.listing.proofs.WritingLaws.{wrote_append, capacity_first, capacity_rest}
 
 -- any number above n is enough digits for n
 enough : (f g n : ℕ) → n < f → n < g → decimal_in f n ≡ decimal_in g n
@@ -51,25 +52,23 @@ decimal-length (suc k) n h = go (ltb n 10) refl (λ q. decimal-length k (n / 10)
         let q = r (omega arith) in
         rw (decimal-large n (ltb-false n 10 e)) (omega (arith, length-append (decimal (n / 10)) (digit (n % 10) ∷ [])))
 
-pub decimal-some : (n : ℕ) → 1 ≤ length (decimal n)
-decimal-some n = go (ltb n 10) refl
-  where
-    go : (b : Bool) → ltb n 10 ≡ b → 1 ≤ length (decimal n)
-    go true e = rw (decimal-small n (ltb-true n 10 e)) (omega arith)
-    go false e = rw (decimal-large n (ltb-false n 10 e)) (omega (arith, length-append (decimal (n / 10)) (digit (n % 10) ∷ [])))
-
 -- ---- numerals written
 
-pub short-numeral : (l : List ℕ) (i n : ℕ) → n < 10 → Wrote l i (decimal n) (set l i (48 + n)) (i + 1)
-short-numeral l i n h = rw (decimal-small n h) (wrote_byte l i (48 + n))
+-- of a number below 10 there is the last digit alone
+module _ {p : Page} (n : ℕ) (h : n < 10) where
+  pub one_capacity : Capacity p (decimal n) → Capacity p (digit (n % 10) ∷ [])
+  one_capacity r = let e : n % 10 ≡ n = omega arith in rw e (rw (decimal-small n h) at r)
 
-module _ {l : List ℕ} {i : ℕ} (n : ℕ) (h : 10 ≤ n) where
-  pub tenth_capacity : Capacity l i (decimal n) → Capacity l i (decimal (n / 10))
+  pub one-numeral : {q : Page} → Wrote p (digit (n % 10) ∷ []) q → Wrote p (decimal n) q
+  one-numeral w = let e : n % 10 ≡ n = omega arith in rw (decimal-small n h) (rw e at w)
+
+module _ {p : Page} (n : ℕ) (h : 10 ≤ n) where
+  pub tenth_capacity : Capacity p (decimal n) → Capacity p (decimal (n / 10))
   tenth_capacity r = capacity_first (decimal (n / 10)) (digit (n % 10) ∷ []) (rw (decimal-large n h) at r)
 
-  module _ {m : List ℕ} {e : ℕ} (w : Wrote l i (decimal (n / 10)) m e) where
-    pub long-numeral : Wrote l i (decimal n) (set m e (48 + n % 10)) (e + 1)
-    long-numeral = rw (decimal-large n h) (wrote_append w (wrote_byte m e (48 + n % 10)))
+  module _ {q : Page} (w : Wrote p (decimal (n / 10)) q) where
+    pub digit_capacity : Capacity p (decimal n) → Capacity q (digit (n % 10) ∷ [])
+    digit_capacity r = capacity_rest w (digit (n % 10) ∷ []) (rw (decimal-large n h) at r)
 
-    pub digit_capacity : Capacity l i (decimal n) → e < length m
-    digit_capacity r = let f = (capacity_rest w (digit (n % 10) ∷ []) (rw (decimal-large n h) at r)).fits in omega arith
+    pub long-numeral : {z : Page} → Wrote q (digit (n % 10) ∷ []) z → Wrote p (decimal n) z
+    long-numeral v = rw (decimal-large n h) (wrote_append w v)

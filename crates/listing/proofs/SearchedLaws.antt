@@ -21,13 +21,17 @@ use Rattle.laws.proofs.LayoutLaws.{layout-parts}
 use Rattle.laws.proofs.BudgetLaws.{none≢found, spent≢found}
 use Rattle.laws.proofs.SolutionLaws.{table_of-length}
 use Rattle.format.proofs.AcceptLaws.{problem_of-holds}
-use Rattle.cobleskeg.specs.declared.SearchAnswer.{SearchAnswer}
-use Rattle.cobleskeg.specs.declared.SearchAnswer.TheVariants.{Refused, Found, None, Spent}
+use Rattle.std.specs.Prelude.{Result, Ok, Err}
+use Rattle.refusals.specs.declared.Refusal.{Refusal}
+use Rattle.search.specs.declared.Outcome.{Outcome}
+use Rattle.search.specs.declared.Outcome.TheVariants.{Found, None, Spent}
+use Rattle.search.specs.Outcomes.{outcome_of}
 use Rattle.cobleskeg.specs.Answers.{search_reply}
 use Rattle.cobleskeg.specs.Claims.{SearchHolds}
 use Rattle.cobleskeg.proofs.SearchEntryLaws.{search-fitting}
 use Rattle.model.specs.Listing.{found_bytes, none_bytes, spent_bytes, line, solution_lines, outcome_lines, reply_lines, search_lines}
-use Rattle.listing.specs.Writing.{Capacity}
+use Rattle.listing.specs.declared.Page.{Page}
+use Rattle.listing.specs.Writing.{Capacity, FullCapacity}
 use Rattle.listing.specs.TableLines.{table_lines, Lengths, Lent}
 use Rattle.listing.proofs.NumeralLaws.{decimal-length}
 use Rattle.listing.proofs.LengthLaws.{ending-most, choice-most}
@@ -70,8 +74,8 @@ module _ (budget : ℕ) (A : List ℕ) where
       go (some N) f = hit-within N n f
 
 -- the first line fits
-pub ending_capacity : (w : List ℕ) (n : ℕ) (lines : List ℕ) → 3260 ≤ length lines → length w ≤ 7 → n < 4294967296 → Capacity lines 0 (line w (n ∷ []))
-ending_capacity w n lines h k l = record { fits = let m = ending-most w 9 n (decimal-length 9 n (omega arith)) in omega arith }
+pub ending_capacity : (w : List ℕ) (n : ℕ) {p : Page} → FullCapacity p → length w ≤ 7 → n < 4294967296 → Capacity p (line w (n ∷ []))
+ending_capacity w n full h k = record { fits = let f = full.fits in let m = ending-most w 9 n (decimal-length 9 n (omega arith)) in omega arith }
 
 -- the search that the program makes
 abbrev searched : Accepted → Search
@@ -90,9 +94,10 @@ module _ (P : Problem) (F : List ℕ) (α : Choice) (fits : Fits P F α) (s : �
   own_lines : solution_lines P U ≡ table_lines s U
   own_lines = ap (solution_lines P) own ∙ solution-lines P F α fits ∙ sym (table-lines P F α fits) ∙ sym (ap₂ table_lines same own)
 
-  own_capacity : P.strings ≤ 16 → P.numbers ≤ 16 → (first lines : List ℕ) → length first ≤ 12 → 3260 ≤ length lines → Capacity lines 0 (first ++ table_lines s U)
-  own_capacity h k first lines l bytes = record {
+  own_capacity : P.strings ≤ 16 → P.numbers ≤ 16 → (first : List ℕ) → length first ≤ 12 → {p : Page} → FullCapacity p → Capacity p (first ++ table_lines s U)
+  own_capacity h k first l full = record {
     fits =
+        let f = full.fits in
         let rest = choice-most P F α fits h k in
         let e = ap length (ap₂ table_lines same own ∙ table-lines P F α fits) in
         omega (arith, length-append first (table_lines s U));
@@ -101,7 +106,7 @@ module _ (P : Problem) (F : List ℕ) (α : Choice) (fits : Fits P F α) (s : �
   own-ready : (64 * s ≤ length U) × Lengths U s
   own-ready = let whole : length (table_of P α) ≡ width P = table_of-length P α in rw (same, own) (omega arith, own-lengths P F α fits)
 
-module _ (file : List ℕ) (s : ℕ) (R A lines : List ℕ) (lent : Lent file s R A lines) (R' U : List ℕ) (r : SearchAnswer) (e : search_reply R' U r ≡ search (reading file) 65536 R A) where
+module _ (file : List ℕ) (s : ℕ) (R A : List ℕ) (lent : Lent file s R A) (R' U : List ℕ) (r : Result Outcome Refusal) (e : search_reply R' U r ≡ search (reading file) 65536 R A) where
   replied : (z : Searched) × (search_reply R' U r ≡ answered z) × (z.outcome ≡ (searched lent.file-holds).outcome) × (z.table ≡ (searched lent.file-holds).table)
   replied =
       let a = lent.file-holds in
@@ -112,8 +117,7 @@ module _ (file : List ℕ) (s : ℕ) (R A lines : List ℕ) (lent : Lent file s 
         ap (λ (B : List ℕ). (searching a.problem a.table 65536 B).table) lent.table-words,
       )
 
-  pub never-refused : (n : ℕ) → r ≡ Refused n → ⊥
-  unfolding search_reply
+  pub never-refused : (n : Refusal) → r ≡ Err n → ⊥
   never-refused n q = refused≢answered (ap (search_reply R' U) (sym q) ∙ replied.1)
 
   -- the lines of an outcome, where the answer table is left as U
@@ -125,18 +129,18 @@ module _ (file : List ℕ) (s : ℕ) (R A lines : List ℕ) (lent : Lent file s 
       let w : o ≡ (searched lent.file-holds).outcome = ap (λ (z : Searched). z.outcome) same ∙ replied.2 in
       (lines_searched file lent.file-holds lent.reads ∙ sym (ap₂ (outcome_lines lent.file-holds.problem) t w), sym w)
 
-  pub none_lines : (n : ℕ) → r ≡ None n → reply_lines (search_lines (reading file)) ≡ line none_bytes (n ∷ [])
-  unfolding search_reply outcome_lines
+  pub none_lines : (n : ℕ) → r ≡ Ok (None n) → reply_lines (search_lines (reading file)) ≡ line none_bytes (n ∷ [])
+  unfolding outcome_of outcome_lines
   none_lines n q = (ended (tree.none n) (ap (search_reply R' U) q)).0
 
-  pub spent_lines : (n : ℕ) → r ≡ Spent n → reply_lines (search_lines (reading file)) ≡ line spent_bytes (n ∷ [])
-  unfolding search_reply outcome_lines
+  pub spent_lines : (n : ℕ) → r ≡ Ok (Spent n) → reply_lines (search_lines (reading file)) ≡ line spent_bytes (n ∷ [])
+  unfolding outcome_of outcome_lines
   spent_lines n q = (ended (tree.spent n) (ap (search_reply R' U) q)).0
 
-  module _ (holds : SearchHolds file 65536 R A r U) (n : ℕ) (q : r ≡ Found n) where
+  module _ (holds : SearchHolds file 65536 R A r U) (n : ℕ) (q : r ≡ Ok (Found n)) where
     found-ended : (reply_lines (search_lines (reading file)) ≡ line found_bytes (n ∷ []) ++ solution_lines lent.file-holds.problem U)
         × ((searched lent.file-holds).outcome ≡ tree.found n)
-    unfolding search_reply outcome_lines
+    unfolding outcome_of outcome_lines
     found-ended = ended (tree.found n) (ap (search_reply R' U) q)
 
     pub found_lines : reply_lines (search_lines (reading file)) ≡ line found_bytes (n ∷ []) ++ table_lines s U
@@ -145,14 +149,14 @@ module _ (file : List ℕ) (s : ℕ) (R A lines : List ℕ) (lent : Lent file s 
         let t = holds.first a lent.reads n q in
         found-ended.0 ∙ ap (λ (l : List ℕ). line found_bytes (n ∷ []) ++ l) (own_lines a.problem a.table t.0 t.1.solution.fits s lent.strings U t.2)
 
-    pub found_capacity : Capacity lines 0 (line found_bytes (n ∷ []) ++ table_lines s U)
-    found_capacity =
+    pub found_capacity : {p : Page} → FullCapacity p → Capacity p (line found_bytes (n ∷ []) ++ table_lines s U)
+    found_capacity full =
         let a = lent.file-holds in
         let t = holds.first a lent.reads n q in
         let range = reading_range file a lent.reads in
         let count = found_within 65536 (replicate (width a.problem) 0) a.problem a.table n found-ended.1 in
         let first = ending-most found_bytes 4 n (decimal-length 4 n (omega arith)) in
-        own_capacity a.problem a.table t.0 t.1.solution.fits s lent.strings U t.2 range.0 range.1 (line found_bytes (n ∷ [])) lines (omega arith) lent.lines_bytes
+        own_capacity a.problem a.table t.0 t.1.solution.fits s lent.strings U t.2 range.0 range.1 (line found_bytes (n ∷ [])) (omega arith) full
 
     pub found-ready : (64 * s ≤ length U) × Lengths U s
     found-ready =

@@ -8,6 +8,7 @@ use lib.Seq.{length-take-le, take_all}
 use Rattle.model.specs.Domains.{row}
 use Rattle.laws.proofs.DomainLaws.{row_word, row-length}
 use Rattle.model.specs.Listing.{decimal, line, string_line}
+use Rattle.listing.specs.declared.Page.{Page}
 use Rattle.listing.specs.Writing.{Capacity}
 use Rattle.listing.specs.TableLines.{only_value, text_of, Lengths}
 
@@ -22,8 +23,8 @@ string-parts r x n e size short =
     rw (count, k)
 
 -- what the line of a row asks, for its parts
-pub string_capacity : (r : List ℕ) (x n : ℕ) → n ≡ only_value (get_or r 0 0) → {l : List ℕ} {i : ℕ}
-    → (length r ≡ 64) × (only_value (get_or r 0 0) < 64) × Capacity l i (string_line x (text_of r)) → Capacity l i (line (115 ∷ decimal x) (n ∷ map only_value (take (n + 1 - 1) (drop 1 r))))
+pub string_capacity : (r : List ℕ) (x n : ℕ) → n ≡ only_value (get_or r 0 0) → {p : Page}
+    → (length r ≡ 64) × (only_value (get_or r 0 0) < 64) × Capacity p (string_line x (text_of r)) → Capacity p (line (115 ∷ decimal x) (n ∷ map only_value (take (n + 1 - 1) (drop 1 r))))
 string_capacity r x n e pre = rw (string-parts r x n e pre.0 pre.1) at pre.2
 
 row-part : (T : List ℕ) (x : ℕ) → take (64 * x + 64 - 64 * x) (drop (64 * x) T) ≡ row T x
@@ -31,10 +32,10 @@ unfolding row
 row-part T x = let e : 64 * x + 64 - 64 * x ≡ 64 = omega arith in ap (λ (n : ℕ). take n (drop (64 * x) T)) e
 
 -- what the line of a row asks of its part of the table
-pub part-ready : (T : List ℕ) (s x : ℕ) → 64 * s ≤ length T → x < s → Lengths T s → {l : List ℕ} {i : ℕ} → Capacity l i (string_line x (text_of (row T x)))
+pub part-ready : (T : List ℕ) (s x : ℕ) → 64 * s ≤ length T → x < s → Lengths T s → {p : Page} → Capacity p (string_line x (text_of (row T x)))
     → (length (take (64 * x + 64 - 64 * x) (drop (64 * x) T)) ≡ 64)
     × (only_value (get_or (take (64 * x + 64 - 64 * x) (drop (64 * x) T)) 0 0) < 64)
-    × Capacity l i (string_line x (text_of (take (64 * x + 64 - 64 * x) (drop (64 * x) T))))
+    × Capacity p (string_line x (text_of (take (64 * x + 64 - 64 * x) (drop (64 * x) T))))
 part-ready T s x h k short capacity =
     let e : 64 * x + 0 ≡ 64 * x = omega arith in
     rw (row-part T x) (row-length T x (omega arith), rw (row_word T x 0 (omega arith), e) (short x k), capacity)

@@ -1,14 +1,16 @@
 -- Laws of texts written into a buffer: one behind the other they are one text. Assumes nothing.
 use mathlib.Core.Path.{◌≡◌, refl, sym, ap, ◌∙◌}
 use mathlib.Core.List.{List, [], ◌∷◌, ◌++◌}
-use Prim.Native.Nat.{ℕ, suc, ◌+◌, ◌≤◌, ◌<◌}
+use Prim.Native.Nat.{ℕ, suc, ◌+◌, ◌≤◌}
 use native.Mathlib.Omega.{arith}
-use native.Mathlib.Numerals.{add-one}
-use lib.ListN.{length, get_or, set, take, drop, length-append}
-use lib.Seq.{sets, length-sets, sets-eq, take-suc, take_all}
+use lib.ListN.{length, set, take, drop, length-append}
+use lib.Seq.{sets, length-sets, sets-eq, take_all}
+use borrow.Rule.Slice.PartMut.{put_mid}
+use Rattle.std.proofs.lemmas.Slice.{put_mid-paste}
+use Rattle.listing.specs.declared.Page.{Page}
 use Rattle.listing.specs.Writing.{written, Capacity, Wrote}
 
-pub written-append : (t u l : List ℕ) (i : ℕ) → written l i (t ++ u) ≡ written (written l i t) (i + length t) u
+written-append : (t u l : List ℕ) (i : ℕ) → written l i (t ++ u) ≡ written (written l i t) (i + length t) u
 unfolding written
 written-append [] u l i = let e : i ≡ i + 0 = omega arith in ap (λ (k : ℕ). sets l k u) e
 written-append (b ∷ t) u l i =
@@ -19,45 +21,30 @@ pub written-whole : (t l : List ℕ) → length t ≤ length l → written l 0 t
 unfolding written
 written-whole t l h = let e : 0 + length t ≡ length t = omega arith in sets-eq t l 0 (omega arith) ∙ ap (λ (k : ℕ). t ++ drop k l) e
 
-module _ {l m : List ℕ} {i e : ℕ} {t : List ℕ} (w : Wrote l i t m e) where
-  pub wrote_length : length m ≡ length l
+module _ {p q : Page} {t : List ℕ} (w : Wrote p t q) where
+  wrote_length : length q.lines.now ≡ length p.lines.now
   unfolding written
-  wrote_length = ap length w.buffer ∙ length-sets l i t
+  wrote_length = ap length w.buffer ∙ length-sets p.lines.now p.at t
 
-  pub wrote_append : {u a : List ℕ} {z : ℕ} → Wrote m e u a z → Wrote l i (t ++ u) a z
-  wrote_append {u} {a} {z} v = record {
-    buffer = v.buffer ∙ ap (λ (k : List ℕ). written k e u) w.buffer ∙ ap (λ (k : ℕ). written (written l i t) k u) w.index ∙ sym (written-append t u l i);
-    index = let p = w.index in let q = v.index in omega (arith, length-append t u);
+  pub wrote_append : {u : List ℕ} {z : Page} → Wrote q u z → Wrote p (t ++ u) z
+  wrote_append {u} {z} v = record {
+    same_buffer = v.same_buffer ∙ w.same_buffer;
+    buffer = v.buffer ∙ ap (λ (k : List ℕ). written k q.at u) w.buffer ∙ ap (λ (k : ℕ). written (written p.lines.now p.at t) k u) w.index ∙ sym (written-append t u p.lines.now p.at);
+    index = let e = w.index in let f = v.index in omega (arith, length-append t u);
   }
 
-  pub capacity_rest : (u : List ℕ) → Capacity l i (t ++ u) → Capacity m e u
-  capacity_rest u r = record { fits = let f = r.fits in let p = w.index in omega (arith, length-append t u, wrote_length) }
+  pub capacity_rest : (u : List ℕ) → Capacity p (t ++ u) → Capacity q u
+  capacity_rest u r = record { fits = let f = r.fits in let e = w.index in omega (arith, length-append t u, wrote_length) }
 
-pub capacity_first : {l : List ℕ} {i : ℕ} (t u : List ℕ) → Capacity l i (t ++ u) → Capacity l i t
+pub capacity_first : {p : Page} (t u : List ℕ) → Capacity p (t ++ u) → Capacity p t
 capacity_first t u r = record { fits = let f = r.fits in omega (arith, length-append t u) }
 
-pub wrote_none : (l : List ℕ) (i : ℕ) → Wrote l i [] l i
+pub wrote_none : (p : Page) → Wrote p [] p
 unfolding written
-wrote_none l i = record { buffer = refl; index = omega arith }
+wrote_none p = record { same_buffer = refl; buffer = refl; index = omega arith }
 
-pub wrote_byte : (l : List ℕ) (i b : ℕ) → Wrote l i (b ∷ []) (set l i b) (i + 1)
+-- a part of the buffer after a copy
+pub written-part : (l t u : List ℕ) (i k : ℕ) → u ≡ t → k ≡ length t → i + length t ≤ length l → put_mid i k l u ≡ written l i t
 unfolding written
-wrote_byte l i b = record { buffer = refl; index = refl }
-
--- ---- a list of bytes, one at a time
-
-pub put-start : (l : List ℕ) (i : ℕ) → Wrote l i [] l (i + 0)
-unfolding written
-put-start l i = record { buffer = refl; index = refl }
-
-module _ {l m : List ℕ} {i : ℕ} (bytes : List ℕ) {j : ℕ} (w : Wrote l i (take j bytes) m (i + j)) where
-  pub put_step : j < length bytes → Wrote l i (take (j + 1) bytes) (set m (i + j) (get_or bytes j 0)) (i + (j + 1))
-  put_step h =
-      let e : i + (j + 1) ≡ i + j + 1 = omega arith in
-      rw (e, add-one j, take-suc bytes j 0 h) (wrote_append w (wrote_byte m (i + j) (get_or bytes j 0)))
-
-  pub put-end : length bytes ≤ j → j ≤ length bytes → Wrote l i bytes m (i + length bytes)
-  put-end h k =
-      let e : j ≡ length bytes = omega arith in
-      let t : take j bytes ≡ bytes = take_all j bytes h in
-      rw (t, e) at w
+written-part l t u i k e f h =
+    put_mid-paste i k l u t (length t) e (sym f) refl ∙ ap (λ (v : List ℕ). take i l ++ v ++ drop (i + length t) l) (take_all (length t) t (omega arith)) ∙ sym (sets-eq t l i h)

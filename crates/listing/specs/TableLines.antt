@@ -40,11 +40,10 @@ pub record Counted (file : List ℕ) (s t : ℕ) : Type 0 where
   pub strings : s ≡ file-holds.problem.strings
   pub numbers : t ≡ file-holds.problem.numbers
 
--- a file that Read accepts, of s strings; what Search is lent for it, and where its lines go
-pub record Lent (file : List ℕ) (s : ℕ) (room table lines : List ℕ) : Type 0 where
+-- a file that Read accepts, of s strings, and what Search is lent for it
+pub record Lent (file : List ℕ) (s : ℕ) (room table : List ℕ) : Type 0 where
   pub file-holds : Accepted
   pub reads : reading file ≡ answered file-holds
   pub strings : s ≡ file-holds.problem.strings
   pub room-words : 3 * width file-holds.problem ≤ length room
   pub table-words : table ≡ replicate (width file-holds.problem) 0
-  pub lines_bytes : 3260 ≤ length lines

@@ -1,20 +1,34 @@
 -- Bytes written into a lent buffer one after the other. Assumes nothing.
-use Rattle.std.specs.Prelude.{◌≡◌, cond, List, [], ℕ, ◌+◌, ◌≤◌, leb, length}
+use Rattle.std.specs.Prelude.{◌≡◌, cond, Result, Ok, Err, List, [], ℕ, ◌+◌, ◌≤◌, leb, length}
 use Rattle.std.proofs.lemmas.List.Edits.{sets}
-use Rattle.model.specs.Listing.{listing}
+use Rattle.model.specs.Replies.{Reply, refused}
+use Rattle.model.specs.Listing.{reply_lines, listing}
+use Rattle.refusals.specs.declared.Refusal.{Refusal}
+use Rattle.refusals.specs.Numbers.{number}
+use Rattle.listing.specs.declared.Page.{Page}
 
 -- the buffer with this text from index i on
 unfoldable pub written : List ℕ → ℕ → List ℕ → List ℕ
 written lines i text = sets lines i text
 
--- the text fits into the buffer from index i on
-pub record Capacity (lines : List ℕ) (i : ℕ) (text : List ℕ) : Type 0 where
-  pub fits : i + length text ≤ length lines
+-- the text fits behind what is written
+pub record Capacity (p : Page) (text : List ℕ) : Type 0 where
+  pub fits : p.at + length text ≤ length p.lines.now
 
--- a call made `after` of the buffer by writing the text from index i on, and answers the index behind it
-pub record Wrote (lines : List ℕ) (i : ℕ) (text after : List ℕ) (end : ℕ) : Type 0 where
-  pub buffer : after ≡ written lines i text
-  pub index : end ≡ i + length text
+-- the longest listing fits behind what is written
+pub record FullCapacity (p : Page) : Type 0 where
+  pub fits : p.at + 3260 ≤ length p.lines.now
+
+-- a call wrote the text behind what was written, into the same buffer
+pub record Wrote (p : Page) (text : List ℕ) (q : Page) : Type 0 where
+  pub same_buffer : q.lines.ghost_name ≡ p.lines.ghost_name
+  pub buffer : q.lines.now ≡ written p.lines.now p.at text
+  pub index : q.at ≡ p.at + length text
+
+-- a call that has this reply wrote its lines; one that refuses wrote nothing
+abbrev pub Replied : Page → Reply (List ℕ) → Page → Result (Unit {0}) Refusal → Type 0
+Replied p r q (Ok a) = Capacity p (reply_lines r) × Wrote p (reply_lines r) q
+Replied p r q (Err e) = (r ≡ refused (number e)) × (q ≡ p)
 
 -- what is written into a buffer lent for an input: the listing, or nothing where the buffer is shorter than the longest listing
 unfoldable pub printed : List ℕ → List ℕ → List ℕ

@@ -1,4 +1,5 @@
 -- The rows of the three strings become tidy one after the other, and stay tidy from step to step. Assumes nothing.
+use Rattle.std.specs.Prelude.{Option}
 use Rattle.std.proofs.Common.{◌≡◌, ℕ, ◌+◌, ◌*◌, ◌<◌, ◌≤◌, Bool, true, false, eqb, ◌≢◌, List, [], ◌∷◌, length, sym, refl, ap, ◌∙◌, subst, ⊎_elim, arith, eq-eqb, eqb-true}
 use mathlib.Core.Bool.{false≢true}
 use mathlib.Core.List.Memᴰ
@@ -14,13 +15,10 @@ use Rattle.rows.specs.Rows.{trimmed}
 use Rattle.rows.proofs.TrimLaws.{trimmed-length}
 use Rattle.rows.proofs.StoreLaws.{stored-length, row-stored-other}
 use Rattle.inplace.specs.InTable.{Tidy, Trimmed}
-use Rattle.inplace.specs.declared.Change.{Change}
-use Rattle.inplace.specs.InPlace.{InPlace}
+use Rattle.inplace.specs.declared.Changed.{Changed}
+use Rattle.inplace.specs.InPlace.{InPlace, left}
 use Rattle.inplace.proofs.Tables.{same_row}
 use Rattle.cat.specs.Strings.{Strings}
-use Rattle.automata.specs.Machine.{state_count, machine, Whole}
-use Rattle.automata.specs.Kinds.{Kinds}
-use Rattle.automata.proofs.KindLaws.{no_words}
 use Rattle.regular.specs.PlaceSets.{Alphabet}
 use Rattle.measure.specs.TidyRows.{TidyRows}
 
@@ -106,14 +104,12 @@ module _ {T : List ℕ} (r : TidyRows 3 T) where
   asked-len = (omega arith, number_fits, tidy-z)
 
   -- a word has no bit at 64 or above
-  pub asked-regular : (d ks : List ℕ) → Whole 64 d → length ks ≡ 0 → (64 ≤ 64) × Whole 64 d × Kinds (machine 64 d) (state_count d) 64 ks 0
-      × (64 * 0 + 64 ≤ length T) × Alphabet 64 (row T 0) × Tidy (row T 0)
-  asked-regular d ks w z =
-      (omega arith, w, no_words ks 0 z (machine 64 d) (state_count d) 64, row_fits 0 (omega arith), record { below = λ j h. none_from-all _ }, tidy-x)
+  pub asked-regular : (64 * 0 + 64 ≤ length T) × Alphabet 64 (row T 0) × Tidy (row T 0)
+  asked-regular = (row_fits 0 (omega arith), record { below = λ j h. none_from-all _ }, tidy-x)
 
 -- ---- what a step leaves
 
-module _ {ds : List Automaton} {d : Constraint} {xs is T U : List ℕ} {c : Change} (far : (i : ℕ) → In i is → 192 ≤ i) (r : TidyRows 3 T) (p : InPlace ds d xs is T U c) where
+module _ {ds : List Automaton} {d : Constraint} {xs is T U : List ℕ} {c : Option Changed} (far : (i : ℕ) → In i is → 192 ≤ i) (r : TidyRows 3 T) (p : InPlace ds d xs is T U c) where
   -- a row that is not named is as it was
   same : (x : ℕ) → x < 3 → any (eqb x) xs ≡ false → row U x ≡ row T x
   same x h e =
@@ -123,7 +119,7 @@ module _ {ds : List Automaton} {d : Constraint} {xs is T U : List ℕ} {c : Chan
       (λ y m i g w. let s : x ≡ y = omega arith in false≢true (sym e ∙ in_any (eqb x) m (eq-eqb x y s)))
       (λ i m w. let g = far i m in omega arith))
 
-  kept : c.left ≡ true → TidyRows 3 U
+  kept : left c ≡ true → TidyRows 3 U
   kept q = record { size = p.size ∙ r.size; tidy = λ x h. at x h (any (eqb x) xs) refl }
     where
       at : (x : ℕ) → x < 3 → (b : Bool) → any (eqb x) xs ≡ b → Tidy (row U x)
@@ -132,8 +128,9 @@ module _ {ds : List Automaton} {d : Constraint} {xs is T U : List ℕ} {c : Chan
           subst (λ (y : ℕ). Tidy (row U y)) (sym (eqb-true x w.0 w.2)) (p.tidy q w.0 w.1)
       at x h false e = subst Tidy (sym (same x h e)) (r.tidy x h)
 
-pub strings-kept : {ds : List Automaton} {d : Constraint} {xs T U : List ℕ} {c : Change} → TidyRows 3 T → InPlace ds d xs [] T U c → c.left ≡ true → TidyRows 3 U
-strings-kept r p q = kept (λ i m. elim m [ ]) r p q
+-- b says whether a choice is left
+pub strings-kept : {ds : List Automaton} {d : Constraint} {xs T U : List ℕ} {c : Option Changed} {b : Bool} → TidyRows 3 T → InPlace ds d xs [] T U c → b ≡ left c → b ≡ true → TidyRows 3 U
+strings-kept r p e q = kept (λ i m. elim m [ ]) r p (sym e ∙ q)
 
-pub number-kept : {ds : List Automaton} {d : Constraint} {xs T U : List ℕ} {c : Change} → TidyRows 3 T → InPlace ds d xs (192 ∷ []) T U c → c.left ≡ true → TidyRows 3 U
-number-kept r p q = kept (λ i m. ⊎_elim (λ e. omega arith) (λ k. elim k [ ]) (Memᴰ.cases_cons m)) r p q
+pub number-kept : {ds : List Automaton} {d : Constraint} {xs T U : List ℕ} {c : Option Changed} {b : Bool} → TidyRows 3 T → InPlace ds d xs (192 ∷ []) T U c → b ≡ left c → b ≡ true → TidyRows 3 U
+number-kept r p e q = kept (λ i m. ⊎_elim (λ e. omega arith) (λ k. elim k [ ]) (Memᴰ.cases_cons m)) r p (sym e ∙ q)

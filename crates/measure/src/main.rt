@@ -14,12 +14,8 @@ ghost use Rattle.measure.specs.TidyRows.{TidyRows};
 fn typical_row(t: &mut [u64], x: usize, lengths: u64)
     requires { 64 * x + 64 ≤ length t.old }
 {
-    let mut i: usize = 0;
-    while i < 8 {
-        t[64 * x + i + 1] = 7;
-        i += 1;
-    }
     t[64 * x] = lengths;
+    t[64 * x + 1..64 * x + 9].fill(7);
 }
 
 // X has the lengths 2 to 4, Y 2 to 5, Z 4 to 8, and N the values 1 to 5.
@@ -45,12 +41,10 @@ fn tidy(t: &mut [u64]) -> bool
     requires { length t.old ≡ 193 }
     ensures { result ≡ true → TidyRows 3 t.new }
 {
-    let mut x: usize = 0;
-    while x < 3 {
+    for x in 0..3 {
         if !inplace::tidy(t, x) {
             return false;
         }
-        x += 1;
     }
     true
 }
@@ -63,11 +57,7 @@ fn parity() -> [u8; 133]
     d[0] = 2;
     d[1] = 1;
     d[5] = 1;
-    let mut i: usize = 0;
-    while i < 63 {
-        d[i + 70] = 1;
-        i += 1;
-    }
+    d[70..].fill(1);
     d
 }
 
@@ -77,59 +67,81 @@ fn regular_step(t: &mut [u64]) -> bool
     ensures { result ≡ true → TidyRows 3 t.new }
 {
     let d = parity();
-    let kinds = [0u64; 0];
-    regular::narrow(&d, 64, &kinds, 0, t, 0).left
+    let automaton = automata::Automaton { bytes: &d, k: 64 };
+    regular::narrow(automaton, None, t, 0).is_some()
+}
+
+// What is run: trimming, or the step of one of the paper's kinds.
+#[derive(Clone, Copy)]
+enum Kind {
+    Trim,
+    Eq,
+    Neq,
+    Rev,
+    Cat,
+    Sub,
+    Len,
+    Regular,
+}
+
+// The kind that a byte of the input asks for, if it asks for one.
+fn kind_of(number: u8) -> Option<Kind> {
+    match number {
+        0 => Some(Kind::Trim),
+        1 => Some(Kind::Eq),
+        2 => Some(Kind::Neq),
+        3 => Some(Kind::Rev),
+        4 => Some(Kind::Cat),
+        5 => Some(Kind::Sub),
+        6 => Some(Kind::Len),
+        7 => Some(Kind::Regular),
+        _ => None,
+    }
 }
 
 // One step of this kind; whether a choice is left. Sub looks for X in Z from N on, and Len measures Z.
-fn step(kind: u8, t: &mut [u64]) -> bool
+fn step(kind: Kind, t: &mut [u64]) -> bool
     requires { TidyRows 3 t.old }
     ensures { result ≡ true → TidyRows 3 t.new }
 {
     match kind {
-        0 => inplace::tidy(t, 0),
-        1 => eq::narrow(t, 0, 1).left,
-        2 => neq::narrow(t, 0, 1).left,
-        3 => rev::narrow(t, 0, 1).left,
-        4 => cat::narrow(t, 0, 1, 2).left,
-        5 => sub::narrow(t, 2, 0, 192).left,
-        6 => len::narrow(t, 2, 192).left,
-        7 => regular_step(t),
-        _ => true,
+        Kind::Trim => inplace::tidy(t, 0),
+        Kind::Eq => eq::narrow(t, 0, 1).is_some(),
+        Kind::Neq => neq::narrow(t, 0, 1).is_some(),
+        Kind::Rev => rev::narrow(t, 0, 1).is_some(),
+        Kind::Cat => cat::narrow(t, 0, 1, 2).is_some(),
+        Kind::Sub => sub::narrow(t, 2, 0, 192).is_some(),
+        Kind::Len => len::narrow(t, 2, 192).is_some(),
+        Kind::Regular => regular_step(t),
     }
 }
 
 // So many steps, or as many as leave a choice.
-fn run(kind: u8, times: u8, t: &mut [u64])
+fn run(kind: Kind, times: u8, t: &mut [u64])
     requires { TidyRows 3 t.old }
 {
-    let mut i: u8 = 0;
-    while i < times {
+    for _ in 0..times {
         if !step(kind, t) {
             return;
         }
-        i += 1;
     }
 }
 
 // How many bits a table has.
-fn bits(t: [u64; 193]) -> u64 {
-    let mut n: u64 = 0;
-    let mut i: usize = 0;
-    while i < 193 {
-        n = n.wrapping_add(words::count(t[i]) as u64);
-        i += 1;
-    }
-    n
+fn bits(t: &[u64; 193]) -> u64 {
+    t.iter()
+        .fold(0, |n, w| n.wrapping_add(words::count(*w) as u64))
 }
 
 // How many bits are left after so many steps.
 fn left(kind: u8, domains: u8, times: u8) -> u64 {
     let mut t = start(domains);
     if tidy(&mut t) {
-        run(kind, times, &mut t);
+        if let Some(k) = kind_of(kind) {
+            run(k, times, &mut t);
+        }
     }
-    bits(t)
+    bits(&t)
 }
 
 // One line: the kind, the domains, and the bits that are left.
@@ -146,9 +158,7 @@ fn report(rt: &impl Print, kind: u8, domains: u8, times: u8) {
 fn main(rt: HostRuntime) {
     let mut input = [0u8; 300];
     let n = streams::read_full(&rt, &mut input);
-    let mut at: usize = 0;
-    while at + 3 <= n {
-        report(&rt, input[at], input[at + 1], input[at + 2]);
-        at += 3;
+    for group in input[..n].chunks_exact(3) {
+        report(&rt, group[0], group[1], group[2]);
     }
 }

@@ -1,4 +1,5 @@
 -- String x without the one string of y, in place: what each way of `without` leaves, and how it is a step of Neq. Assumes nothing.
+use Rattle.std.specs.Prelude.{Some, None}
 use mathlib.Core.Path.{◌≡◌, refl, sym, ap, ap₂, subst, ◌∙◌}
 use mathlib.Core.Logic.{◌≢◌}
 use mathlib.Core.Bool.{Bool, true, false, false≢true}
@@ -23,6 +24,7 @@ use Rattle.rows.proofs.TrimLaws.{some-bit, trimmed-supports}
 use Rattle.laws.specs.Inclusion.{Within}
 use Rattle.laws.specs.Supported.{InRow, Supports}
 use Rattle.laws.proofs.DomainLaws.{row-length, row_words, row-past}
+use Rattle.laws.proofs.TableLaws.{words_of}
 use Rattle.laws.proofs.WordLaws.{zero_bit, pow-only, pow_self}
 use Rattle.laws.proofs.ShiftLaws.{of-and-bit, bit-shr}
 use Rattle.inplace.specs.InPlace.{InPlace}
@@ -31,14 +33,30 @@ use Rattle.inplace.proofs.Reach.{empty-none}
 use Rattle.inplace.proofs.Tables.{row_first, row-place, highest-one, only_refl, only-other, only_out}
 use Rattle.inplace.proofs.Shapes.{two-left, two_none}
 use Rattle.inplace.proofs.Parts.{fewer, fewer-length, fewer-first, fewer-place, fewer-words, part-lengths, part-ready, part-row, part-tidy, part-flag}
-use Rattle.neq.specs.Others.{Against, Alike, Without}
+use Rattle.neq.specs.Others.{Against, Alike, Without, OneOther}
 use Rattle.neq.proofs.StepLaws.{against-several, other-stays, none_other, neq-narrowed}
 use Rattle.neq.proofs.OtherLaws.{in_lacking, of-lacking, u, u-long, no_length, no_symbol}
 use Rattle.neq.proofs.OtherLaws.{two-places, longer, length-gone, symbol-struck, symbol-tidy, symbol-gone}
 
-module _ (T : List ℕ) (x y : ℕ) (fx : 64 * x + 64 ≤ length T) (fy : 64 * y + 64 ≤ length T) (tx : Tidy (row T x)) (ty : Tidy (row T y))
-    (one : any several (row T y) ≡ false)
-    (bd : Words T) (fits : (i : ℕ) → word T i < 2 ^ 64) (l : ℕ) (high : Highest (word T (64 * y)) l) where
+module _ (T : List ℕ) (x y : ℕ) (asked : OneOther T x y) (fits : (i : ℕ) → word T i < 2 ^ 64) (l : ℕ) (high : Highest (word T (64 * y)) l) where
+  fx : 64 * x + 64 ≤ length T
+  fx = asked.fits-x
+
+  fy : 64 * y + 64 ≤ length T
+  fy = asked.fits-y
+
+  tx : Tidy (row T x)
+  tx = asked.tidy-x
+
+  ty : Tidy (row T y)
+  ty = asked.tidy-y
+
+  one : any several (row T y) ≡ false
+  one = asked.one
+
+  bd : Words T
+  bd = words_of T fits
+
   abbrev X : List ℕ
   X = row T x
 
@@ -69,16 +87,16 @@ module _ (T : List ℕ) (x y : ℕ) (fx : 64 * x + 64 ≤ length T) (fy : 64 * y
   other_place : (j : ℕ) → j < l → word T (suc (64 * x + j)) ≢ word T (suc (64 * y + j)) → word X (suc j) ≢ word Y (suc j)
   other_place j h n e = let s = high.small in n (sym (row-place T x j (omega arith)) ∙ e ∙ row-place T y j (omega arith))
 
-  kept : Supports (Against X Y) text_bit 64 X → Without T x y T true false
+  kept : Supports (Against X Y) text_bit 64 X → Without T x y T (Some false)
   kept s = record {
     only = only_refl T x;
     some = λ q. s;
     tidy = λ q. tx;
-    flag = λ q. record { same = λ e. refl; differ = λ e. absurd (false≢true e) };
+    flag = record { same = λ e. refl; differ = λ e. absurd (false≢true e) };
     none = λ q. absurd (false≢true (sym q));
   }
 
-  pub without-length : bit (word T (64 * x)) l ≡ false → Without T x y T true false
+  pub without-length : bit (word T (64 * x)) l ≡ false → Without T x y T (Some false)
   without-length e = kept (no_length X Y lX lY bX bY tx ty one (ap₂ bit (row_first T x) top-is ∙ e))
 
   module _ (allowed : bit (word T (64 * x)) l ≡ true) (single : ℕ) (es : single ≡ 2 ^ l) where
@@ -126,12 +144,12 @@ module _ (T : List ℕ) (x y : ℕ) (fx : 64 * x + 64 ≤ length T) (fy : 64 * y
       M-supports : Supports (InRow M) text_bit 64 (trimmed M)
       M-supports = trimmed-supports M (fewer-length T x fx bd tx others within) (fewer-words T x fx bd tx others within)
 
-      pub without_all : others ≡ 0 → Without T x y T false false
+      pub without_all : others ≡ 0 → Without T x y T None
       without_all z = record {
         only = only_refl T x;
         some = λ q. absurd (false≢true q);
         tidy = λ q. absurd (false≢true q);
-        flag = λ q. absurd (false≢true q);
+        flag = tt;
         none = λ q. struck zeros (subst (Supports (InRow M) text_bit 64)
             (sym (empty-none M (fewer-words T x fx bd tx others within) (fewer-length T x fx bd tx others within) (fewer-first T x fx bd tx others within ∙ z)))
             M-supports);
@@ -140,7 +158,7 @@ module _ (T : List ℕ) (x y : ℕ) (fx : 64 * x + 64 ≤ length T) (fy : 64 * y
       pub without-ready : others ≢ 0 → Ready T x others
       without-ready = part-ready T x T M tx.top others false (part-lengths T x fx bd tx others within T refl) T refl refl
 
-      pub without_shorter : (U : List ℕ) (p : Bool) → Shortened T x others U p → Without T x y U true p
+      pub without_shorter : (U : List ℕ) (p : Bool) → Shortened T x others U p → Without T x y U (Some p)
       without_shorter U p s =
           let part = part-lengths T x fx bd tx others within T refl in
           record {
@@ -148,7 +166,7 @@ module _ (T : List ℕ) (x y : ℕ) (fx : 64 * x + 64 ≤ length T) (fy : 64 * y
             some = λ q. struck (row U x) (subst (Supports (InRow M) text_bit 64) (sym (part-row T x T M tx.top others false part T refl refl U U p s refl))
                 M-supports);
             tidy = λ q. part-tidy T x T M tx.top others false part T refl refl U U p s refl;
-            flag = λ q. part-flag T x T M tx.top others false part T refl refl U U p s refl;
+            flag = part-flag T x T M tx.top others false part T refl refl U U p s refl;
             none = λ q. absurd (false≢true (sym q));
           }
 
@@ -183,10 +201,10 @@ module _ (T : List ℕ) (x y : ℕ) (fx : 64 * x + 64 ≤ length T) (fy : 64 * y
       here : word X (suc at) ≢ word Y (suc at)
       here = other_place at below (far.stop below)
 
-      pub without-symbol : bit_and w v ≡ 0 → Without T x y T true false
+      pub without-symbol : bit_and w v ≡ 0 → Without T x y T (Some false)
       without-symbol e = kept (no_symbol X Y lX lY bX bY tx ty one at inside (ap₂ bit_and word-x word-y ∙ e))
 
-      pub without-longer : others / 2 ^ (at + 1) ≢ 0 → Without T x y T true false
+      pub without-longer : others / 2 ^ (at + 1) ≢ 0 → Without T x y T (Some false)
       without-longer n =
           let short : (b : ℕ) → bit (others / 2 ^ (at + 1)) b ≡ true → b < 64 = λ b e. let k = bd (64 * x) (at + 1 + b)
           (within (at + 1 + b) (sym (bit-shr others (at + 1) b) ∙ e)) in omega arith in
@@ -196,7 +214,7 @@ module _ (T : List ℕ) (x y : ℕ) (fx : 64 * x + 64 ≤ length T) (fy : 64 * y
           (λ d. t.1 (d ∙ long)))
 
       module _ (next : ℕ) (on : Alike T (64 * x) (64 * y) (at + 1) l next) where
-        pub without-two : next < l → Without T x y T true false
+        pub without-two : next < l → Without T x y T (Some false)
         without-two h =
             let g = on.reached in
             kept (two-places X Y lX lY bX bY tx ty one at next inside (subst (λ (n : ℕ). next < n) (sym long) h) (λ e. omega arith) here
@@ -270,14 +288,14 @@ module _ (T : List ℕ) (x y : ℕ) (fx : 64 * x + 64 ≤ length T) (fy : 64 * y
           U-long : length (row U x) ≡ 64
           U-long = let s = U-size in row-length U x (omega arith)
 
-          pub without-struck : Without T x y U true true
+          pub without-struck : Without T x y U (Some true)
           without-struck = record {
             only = record { size = U-size; before = λ k h. kept_word k (omega arith); after = λ k h. let s = small in kept_word k (omega arith) };
             some = λ q. symbol-gone X Y lX lY bX bY tx ty one at inside meets-row here length_in alike_else only-there v-fits (row U x) U-long U-first U-here
                 U-else;
             tidy = λ q. symbol-tidy X Y lX lY bX bY tx ty one at inside meets-row here length_in alike_else only-there v-fits (row U x) U-long U-first U-here
                 U-else;
-            flag = λ q. record {
+            flag = record {
               same = λ e. absurd (false≢true (sym e));
               differ = λ e. symbol-struck X Y lX lY bX bY tx ty one at inside meets-row here length_in alike_else only-there v-fits (row U x) U-long U-first
                   U-here U-else;
@@ -297,8 +315,7 @@ module _ (T : List ℕ) (x y : ℕ) (fx : 64 * x + 64 ≤ length T) (fy : 64 * y
   plain r = record { same = λ e. refl; differ = λ e. absurd (false≢true e) }
 
   -- both stand for several strings
-  pub neq-several : any several (row T x) ≡ true → any several (row T y) ≡ true
-      → InPlace [] (neq 0 1) (x ∷ y ∷ []) [] T T (record { left = true; x = false; y = false; z = false })
+  pub neq-several : any several (row T x) ≡ true → any several (row T y) ≡ true → InPlace [] (neq 0 1) (x ∷ y ∷ []) [] T T (Some (record { x = false; y = false; z = false }))
   neq-several mx my =
       let lx = row-length T x fx in
       let ly = row-length T y fy in
@@ -308,27 +325,31 @@ module _ (T : List ℕ) (x y : ℕ) (fx : 64 * x + 64 ≤ length T) (fy : 64 * y
       tx ty false false (plain (row T x)) (plain (row T y))
 
   -- y stands for one
-  pub neq-first : any several (row T y) ≡ false → (U : List ℕ) (left c : Bool) → Without T x y U left c
-      → InPlace [] (neq 0 1) (x ∷ y ∷ []) [] T U (record { left = left; x = c; y = false; z = false })
-  neq-first one U true c w =
+  pub neq-first : any several (row T y) ≡ false → (U : List ℕ) (c : Bool) → Without T x y U (Some c)
+      → InPlace [] (neq 0 1) (x ∷ y ∷ []) [] T U (Some (record { x = c; y = false; z = false }))
+  neq-first one U c w =
       let e : row U y ≡ row T y = only-other T x U w.only y fy ne in
       let ry = subst (Supports (Against (row T y) (row T x)) text_bit 64) (sym e)
       (other-stays (row T x) (row T y) (row-length T y fy) (row_words T bd y) ty one (row U x) (w.tidy refl) (w.some refl)) in
       two-left (neq 0 1) x y T U w.only.size (λ k f g. only_out T x U w.only k f) (neq-rows (row U x) (row U y) (w.some refl) ry) (w.tidy refl)
       (subst Tidy (sym e) ty) c false
-      (w.flag refl) (subst (λ (r : List ℕ). Flag (row T y) r false) (sym e) (plain (row T y)))
-  neq-first one U false c w = two_none (neq 0 1) x y T U w.only.size (λ k f g. only_out T x U w.only k f)
-      (neq-rows zeros zeros (w.none refl) (none_other (row T x) (row T y) (w.none refl))) (record { left = false; x = c; y = false; z = false }) refl
+      w.flag (subst (λ (r : List ℕ). Flag (row T y) r false) (sym e) (plain (row T y)))
+
+  pub neq_first-none : (U : List ℕ) → Without T x y U None → InPlace [] (neq 0 1) (x ∷ y ∷ []) [] T U None
+  neq_first-none U w = two_none (neq 0 1) x y T U w.only.size (λ k f g. only_out T x U w.only k f)
+      (neq-rows zeros zeros (w.none refl) (none_other (row T x) (row T y) (w.none refl)))
 
   -- x stands for one
-  pub neq-second : any several (row T x) ≡ false → (U : List ℕ) (left c : Bool) → Without T y x U left c
-      → InPlace [] (neq 0 1) (x ∷ y ∷ []) [] T U (record { left = left; x = false; y = c; z = false })
-  neq-second one U true c w =
+  pub neq-second : any several (row T x) ≡ false → (U : List ℕ) (c : Bool) → Without T y x U (Some c)
+      → InPlace [] (neq 0 1) (x ∷ y ∷ []) [] T U (Some (record { x = false; y = c; z = false }))
+  neq-second one U c w =
       let e : row U x ≡ row T x = only-other T y U w.only x fx (λ d. ne (sym d)) in
       let rx = subst (Supports (Against (row T x) (row T y)) text_bit 64) (sym e)
       (other-stays (row T y) (row T x) (row-length T x fx) (row_words T bd x) tx one (row U y) (w.tidy refl) (w.some refl)) in
       two-left (neq 0 1) x y T U w.only.size (λ k f g. only_out T y U w.only k g) (neq-rows (row U x) (row U y) rx (w.some refl))
       (subst Tidy (sym e) tx) (w.tidy refl) false c
-      (subst (λ (r : List ℕ). Flag (row T x) r false) (sym e) (plain (row T x))) (w.flag refl)
-  neq-second one U false c w = two_none (neq 0 1) x y T U w.only.size (λ k f g. only_out T y U w.only k g)
-      (neq-rows zeros zeros (none_other (row T y) (row T x) (w.none refl)) (w.none refl)) (record { left = false; x = false; y = c; z = false }) refl
+      (subst (λ (r : List ℕ). Flag (row T x) r false) (sym e) (plain (row T x))) w.flag
+
+  pub neq_second-none : (U : List ℕ) → Without T y x U None → InPlace [] (neq 0 1) (x ∷ y ∷ []) [] T U None
+  neq_second-none U w = two_none (neq 0 1) x y T U w.only.size (λ k f g. only_out T y U w.only k g)
+      (neq-rows zeros zeros (none_other (row T y) (row T x) (w.none refl)) (w.none refl))

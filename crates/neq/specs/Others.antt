@@ -1,5 +1,5 @@
 -- The strings of a row that differ from a string of another row, and what is left of a row against the one string of another. Assumes nothing.
-use Rattle.std.specs.Prelude.{◌≡◌, ◌≢◌, Bool, true, false, List, ℕ, suc, ◌+◌, ◌*◌, ◌≤◌, ◌<◌, length}
+use Rattle.std.specs.Prelude.{Option, is_some, IfSome, ◌≡◌, ◌≢◌, Bool, true, false, List, ℕ, suc, ◌+◌, ◌*◌, ◌≤◌, ◌<◌, length}
 use Rattle.model.specs.Lists.{any}
 use Rattle.model.specs.Words.{several, word}
 use Rattle.model.specs.Domains.{row}
@@ -23,12 +23,12 @@ pub record Alike (T : List ℕ) (a b start l i : ℕ) : Type 0 where
   pub stop : i < l → word T (suc (a + i)) ≢ word T (suc (b + i))
 
 -- only the row of x differs: it is what its strings use that differ from a string of y, is tidy again, and the flag is right; or no string of x does
-pub record Without (T : List ℕ) (x y : ℕ) (U : List ℕ) (left changed : Bool) : Type 0 where
+pub record Without (T : List ℕ) (x y : ℕ) (U : List ℕ) (r : Option Bool) : Type 0 where
   pub only : Only T x U
-  pub some : left ≡ true → Supports (Against (row T x) (row T y)) text_bit 64 (row U x)
-  pub tidy : left ≡ true → Tidy (row U x)
-  pub flag : left ≡ true → Flag (row T x) (row U x) changed
-  pub none : left ≡ false → Supports (Against (row T x) (row T y)) text_bit 64 zeros
+  pub some : is_some r ≡ true → Supports (Against (row T x) (row T y)) text_bit 64 (row U x)
+  pub tidy : is_some r ≡ true → Tidy (row U x)
+  pub flag : IfSome r (λ changed. Flag (row T x) (row U x) changed)
+  pub none : is_some r ≡ false → Supports (Against (row T x) (row T y)) text_bit 64 zeros
 
 -- two strings with tidy rows, the second of which stands for one string
 pub record OneOther (T : List ℕ) (x y : ℕ) : Type 0 where

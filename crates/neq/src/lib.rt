@@ -24,12 +24,10 @@ fn one_string(t: &[u64], x: usize) -> bool
         return false;
     }
     let top = words::highest(lengths);
-    let mut i: usize = 0;
-    while i < top {
+    for i in 0..top {
         if words::several(t[a + i + 1]) {
             return false;
         }
-        i += 1;
     }
     true
 }
@@ -39,108 +37,59 @@ fn alike(t: &[u64], a: usize, b: usize, start: usize, l: usize) -> usize
     requires { (start ≤ l) × (a + l < length t.now) × (b + l < length t.now) }
     ensures { Alike t.now a b start l result }
 {
-    let mut i = start;
-    while i < l {
+    for i in start..l {
         if t[a + i + 1] != t[b + i + 1] {
             return i;
         }
-        i += 1;
     }
-    i
+    l
 }
 
-// What becomes of a row: whether it keeps a string, and whether it lost a bit.
-#[derive(Clone, Copy)]
-struct Lost {
-    left: bool,
-    changed: bool,
-}
-
-// Takes the one string of y from string x. It takes a bit only where all else is decided: the length, where x allows just that string's symbols; its symbol at
-// the one place where x allows others too, if no other length reaches that place.
-fn without(t: &mut [u64], x: usize, y: usize) -> Lost
+// Takes the one string of y from string x; whether the row of x lost a bit, and None where it keeps no string. It takes a bit only where all else is decided: the
+// length, where x allows just that string's symbols; its symbol at the one place where x allows others too, if no other length reaches that place.
+fn without(t: &mut [u64], x: usize, y: usize) -> Option<bool>
     requires { OneOther t.old x y }
-    ensures { Without t.old x y t.new result.left result.changed }
+    ensures { Without t.old x y t.new result }
 {
     let a = 64 * x;
     let b = 64 * y;
     let l = words::highest(t[b]);
     let lengths = t[a];
     if !words::has(lengths, l) {
-        return Lost {
-            left: true,
-            changed: false,
-        };
+        return Some(false);
     }
     let others = lengths & !words::singleton(l);
     let at = alike(t, a, b, 0, l);
     if at == l {
         if others == 0 {
-            return Lost {
-                left: false,
-                changed: false,
-            };
+            return None;
         }
-        let shorter = inplace::shorten(t, x, others);
-        return Lost {
-            left: true,
-            changed: shorter,
-        };
+        return Some(inplace::shorten(t, x, others));
     }
     let w = t[a + at + 1];
     let v = t[b + at + 1];
-    if w & v == 0 {
-        return Lost {
-            left: true,
-            changed: false,
-        };
-    }
-    if others >> (at + 1) != 0 {
-        return Lost {
-            left: true,
-            changed: false,
-        };
-    }
-    if alike(t, a, b, at + 1, l) < l {
-        return Lost {
-            left: true,
-            changed: false,
-        };
+    let longer = others >> (at + 1);
+    if w & v == 0 || longer != 0 || alike(t, a, b, at + 1, l) < l {
+        return Some(false);
     }
     t[a + at + 1] = w & !v;
-    Lost {
-        left: true,
-        changed: true,
-    }
+    Some(true)
 }
 
-// One narrowing step: a side loses something only where the other stands for one string.
-pub fn narrow(t: &mut [u64], x: usize, y: usize) -> inplace::Change
+// One narrowing step: a side loses something only where the other stands for one string. Rows by their positions, as in crates/eq.
+pub fn narrow(t: &mut [u64], x: usize, y: usize) -> Option<inplace::Changed>
     requires { (64 * x + 64 ≤ length t.old) × (64 * y + 64 ≤ length t.old) × (y ≢ x) × Tidy (row t.old x) × Tidy (row t.old y) }
     ensures { InPlace [] (neq 0 1) (x ∷ y ∷ []) [] t.old t.new result }
 {
-    if one_string(t, y) {
-        let of_x = without(t, x, y);
-        return inplace::Change {
-            left: of_x.left,
-            x: of_x.changed,
-            y: false,
-            z: false,
-        };
-    }
-    if one_string(t, x) {
-        let of_y = without(t, y, x);
-        return inplace::Change {
-            left: of_y.left,
-            x: false,
-            y: of_y.changed,
-            z: false,
-        };
-    }
-    inplace::Change {
-        left: true,
+    let mut changed = inplace::Changed {
         x: false,
         y: false,
         z: false,
+    };
+    if one_string(t, y) {
+        changed.x = without(t, x, y)?;
+    } else if one_string(t, x) {
+        changed.y = without(t, y, x)?;
     }
+    Some(changed)
 }

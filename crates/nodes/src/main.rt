@@ -5,77 +5,68 @@
 
 #![tactic(auto)]
 
-ghost use Rattle.std.specs.Prelude.{◌≤◌, length};
+ghost use Rattle.std.specs.Iterator.{at_most};
+ghost use Rattle.std.specs.Prelude.{length};
 
-fn print_line(rt: &impl Print, outcome: &[u8], n: u64) {
-    let _ = rt.write_all(outcome);
-    let _ = rt.print(n);
-    let _ = rt.write_all(b"\n");
+use cobleskeg::{Outcome, Refusal};
+
+#[derive(Clone, Copy)]
+struct Case<'a> {
+    times: u32,
+    budget: u32,
+    file: &'a [u8],
 }
 
-// The outcome, and the nodes that were visited or the refusal's number.
-fn print_answer(rt: &impl Print, answer: cobleskeg::SearchAnswer) {
-    match answer {
-        cobleskeg::SearchAnswer::Refused(n) => print_line(rt, b"refused ", n as u64),
-        cobleskeg::SearchAnswer::Found(n) => print_line(rt, b"found ", n as u64),
-        cobleskeg::SearchAnswer::None(n) => print_line(rt, b"none ", n as u64),
-        cobleskeg::SearchAnswer::Spent(n) => print_line(rt, b"spent ", n as u64),
+// The cases that the input still holds.
+#[derive(Drop)]
+struct Cases<'a>(&'a [u8]);
+
+impl<'a> Iterator for Cases<'a> {
+    type Item = Case<'a>;
+
+    ghost remaining = { λ s. at_most (length s.0.now) };
+
+    // None too where less of a case is left than it says.
+    fn next(&mut self) -> Option<Case<'a>> {
+        let head = self.0.split_off(..10)?;
+        let file = self.0.split_off(..little::two(head, 0) as usize)?;
+        Some(Case {
+            times: little::four(head, 2),
+            budget: little::four(head, 6),
+            file,
+        })
     }
 }
 
 // Searches so many times, and once more for the line; room for the largest problem.
-fn run(rt: &impl Print, file: &[u8], times: u32, budget: u32, table: &mut [u64]) {
+fn run(case: &Case, table: &mut [u64]) -> Result<Outcome, Refusal> {
     let mut room = [0u64; 3120];
-    let mut i: u32 = 0;
-    while i < times {
-        cobleskeg::search(file, budget, &mut room, table);
-        i += 1;
+    for _ in 0..case.times {
+        cobleskeg::search(case.file, case.budget, &mut room, table)?;
     }
-    print_answer(rt, cobleskeg::search(file, budget, &mut room, table));
+    cobleskeg::search(case.file, case.budget, &mut room, table)
 }
 
-// Lends the first words of a table.
-fn lend(rt: &impl Print, file: &[u8], times: u32, budget: u32, table: &mut [u64], words: usize)
-    requires { words ≤ length table.old }
-{
-    run(rt, file, times, budget, &mut table[..words]);
-}
-
-// The answer table is as long as the file's.
-fn report(rt: &impl Print, file: &[u8], times: u32, budget: u32) {
+// The outcome, and the nodes that were visited or the refusal's number. The answer table is as long as the file's.
+fn report(rt: &impl Print, case: &Case) {
     let mut table = [0u64; 1040];
-    match cobleskeg::read(file) {
-        cobleskeg::ReadAnswer::Refused(n) => print_line(rt, b"refused ", n as u64),
-        cobleskeg::ReadAnswer::Counts(h) => {
-            if h.strings <= 16 {
-                if h.numbers <= 16 {
-                    lend(
-                        rt,
-                        file,
-                        times,
-                        budget,
-                        &mut table,
-                        64 * h.strings + h.numbers,
-                    );
-                }
-            }
+    let answer = match cobleskeg::read(case.file) {
+        Ok(h) if h.strings <= 16 && h.numbers <= 16 => {
+            run(case, &mut table[..64 * h.strings + h.numbers])
         }
-    }
+        Ok(_) => return,
+        Err(e) => Err(e),
+    };
+    let _ = match answer {
+        Ok(outcome) => println!(rt; "{outcome}"),
+        Err(e) => println!(rt; "refused {}", e.number()),
+    };
 }
 
 fn main(rt: HostRuntime) {
     let mut input: [u8; 131072] = streams::zeros();
     let n = streams::read_full(&rt, &mut input);
-    let mut at: usize = 0;
-    while at + 10 <= n {
-        let size = little::two(&input, at) as usize;
-        let times = little::four(&input, at + 2);
-        let budget = little::four(&input, at + 6);
-        at += 10;
-        if size > n - at {
-            return;
-        }
-        report(&rt, &input[at..at + size], times, budget);
-        at += size;
+    for case in Cases(&input[..n]) {
+        report(&rt, &case);
     }
 }

@@ -1,5 +1,5 @@
 -- The letters of a set are taken one after the other, the lowest first, and what each gives is put together. Assumes nothing.
-use mathlib.Core.Path.{◌≡◌, sym, ap, ap₂, ◌∙◌}
+use mathlib.Core.Path.{◌≡◌, sym, ap, ◌∙◌}
 use mathlib.Core.List.{List, map}
 use Prim.Native.Nat.{ℕ, ◌-◌, ◌^◌}
 use lib.Bits.{bit_or, or_zero_l, or_zero_r}
@@ -17,12 +17,12 @@ module _ (f : ℕ → ℕ) (w : ℕ) where
   gathering_start = record { whole = or_zero_l (union (map f (bits w))) }
 
   module _ (rest r : ℕ) (g : Gathering f w rest r) where
-    pub gathering_step : (p o x : ℕ) → Lowest rest p → o ≡ 2 ^ p → x ≡ f p → Gathering f w (rest - o) (bit_or r x)
+    pub gathering_step : (p : ℕ) → Lowest rest p → Gathering f w (rest - 2 ^ p) (bit_or r (f p))
     unfolding union
-    gathering_step p o x low e k = record {
+    gathering_step p low = record {
       whole =
-          or_assoc r x (union (map f (bits (rest - o))))
-          ∙ ap (bit_or r) (ap₂ (λ (y v : ℕ). bit_or y (union (map f (bits (rest - v))))) k e ∙ sym (ap (λ (bs : List ℕ). union (map f bs)) (bits-lowest rest p low.small low.here low.below)))
+          or_assoc r (f p) (union (map f (bits (rest - 2 ^ p))))
+          ∙ ap (λ (bs : List ℕ). bit_or r (union (map f bs))) (sym (bits-lowest rest p low.small low.here low.below))
           ∙ g.whole;
     }
 

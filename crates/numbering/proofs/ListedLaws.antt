@@ -1,14 +1,20 @@
 -- The list of states that the words stand for. Assumes nothing.
 use mathlib.Core.Path.{◌≡◌, refl, sym, ap, ap₂, ◌∙◌}
-use mathlib.Core.Bool.{Bool, true, false, cond, ◌||◌}
+use mathlib.Core.Bool.{Bool, true, false, cond, not, ◌||◌}
 use mathlib.Core.List.{List, [], ◌∷◌, ◌++◌, map, map-append}
-use Prim.Native.Nat.{ℕ, zero, suc, ◌+◌, ◌%◌, ◌≤◌, ◌<◌}
+use Prim.Native.Nat.{ℕ, zero, suc, ◌+◌, ◌-◌, ◌≤◌, ◌<◌}
 use native.Mathlib.Omega.{arith}
 use lib.Bits.{bit_and}
 use lib.Dec.{eqb}
-use lib.ListN.{length, get_or, set, length-map}
+use lib.ListN.{length, get_or, set, take, drop, length-append, length-map, length-take, length-drop}
 use lib.Seq.{get_or-set_same, get_or-set_other}
-use borrow.Author.Tests.{eqb-true, eqb-false, eq-eqb, ne_eqb}
+use Rattle.std.proofs.Common.{Some, None}
+use Rattle.std.specs.List.{position, position_or_len, list_any, slice_range}
+use Rattle.std.proofs.lemmas.Bool.Decides.{nat_tests}
+use Rattle.std.proofs.lemmas.List.{get_or-take}
+use Rattle.std.proofs.lemmas.List.Sums.{prefix_len-le-length}
+use Rattle.std.proofs.lemmas.Option.{cond_some}
+use borrow.Author.Tests.{ltb-false}
 use Rattle.model.specs.Lists.{any, from, upto}
 use Rattle.model.specs.Words.{bits, union}
 use Rattle.laws.proofs.ListLaws.{of-upto, from-length, from-get_or, from-append, map_cong}
@@ -46,101 +52,116 @@ unfolding state_at
 state-new sets zero w l h = absurd (omega arith)
 state-new sets (suc n) w l h = ap passed (get_or-set_same sets (suc n) w 0 h)
 
--- ---- the number of a state, by where it is found
+-- ---- the states but the start, by their sets
 
-number-from : (f : ℕ → State) (x : State) (i n j : ℕ) → j < n → ((m : ℕ) → m < i + j → same_state x (f m) ≡ false) → same_state x (f (i + j)) ≡ true
-    → number_in same_state (map f (from i n)) x ≡ j
-unfolding from number_in
-number-from f x i zero j l h e = absurd (omega arith)
-number-from f x i (suc n) zero l h e =
+words-listed : (f : ℕ → State) (i : ℕ) (ws : List ℕ) → ((j : ℕ) → j < length ws → f (i + j) ≡ passed (get_or ws j 0)) → map f (from i (length ws)) ≡ map passed ws
+unfolding from
+words-listed f i [] h = refl
+words-listed f i (w ∷ ws) h =
     let z : i + 0 ≡ i = omega arith in
-    let t : same_state x (f i) ≡ true = ap (λ (m : ℕ). same_state x (f m)) (sym z) ∙ e in
-    ap (λ (b : Bool). cond b 0 (suc (number_in same_state (map f (from (suc i) n)) x))) t
-number-from f x i (suc n) (suc j) l h e =
-    let z : i + suc j ≡ suc i + j = omega arith in
-    let t : same_state x (f i) ≡ false = h i (omega arith) in
-    ap (λ (b : Bool). cond b 0 (suc (number_in same_state (map f (from (suc i) n)) x))) t
-    ∙ ap suc (number-from f x (suc i) n j (omega arith) (λ m g. h m (omega arith)) (ap (λ (m : ℕ). same_state x (f m)) (sym z) ∙ e))
+    let s : (j : ℕ) → suc i + j ≡ i + suc j = λ j. omega arith in
+    ap₂ (λ (x : State) (Q : List State). x ∷ Q) (ap f (sym z) ∙ h 0 (omega arith)) (words-listed f (suc i) ws (λ j l. ap f (s j) ∙ h (suc j) (omega arith)))
 
-number-none : (f : ℕ → State) (x : State) (i n : ℕ) → ((m : ℕ) → m < i + n → same_state x (f m) ≡ false) → number_in same_state (map f (from i n)) x ≡ n
-unfolding from number_in
-number-none f x i zero h = refl
-number-none f x i (suc n) h =
-    ap (λ (b : Bool). cond b 0 (suc (number_in same_state (map f (from (suc i) n)) x))) (h i (omega arith))
-    ∙ ap suc (number-none f x (suc i) n (λ m g. h m (omega arith)))
+listed-words : (sets : List ℕ) (n : ℕ) → 1 ≤ n → n ≤ length sets → listed sets n ≡ start ∷ map passed (slice_range sets 1 n)
+unfolding listed upto from state_at
+listed-words [] zero l h = absurd (omega arith)
+listed-words [] (suc n) l h = absurd (omega arith)
+listed-words (x ∷ ws) zero l h = absurd (omega arith)
+listed-words (x ∷ ws) (suc n) l h =
+    let z : suc n - 1 ≡ n = omega arith in
+    let s : length (take n ws) ≡ n = length-take n ws ∙ omega arith in
+    let one : (j : ℕ) → 1 + j ≡ suc j = λ j. omega arith in
+    ap (λ (Q : List State). start ∷ Q)
+    (ap (λ (m : ℕ). map (state_at (x ∷ ws)) (from 1 m)) (sym s)
+    ∙ words-listed (state_at (x ∷ ws)) 1 (take n ws) (λ j g. ap (state_at (x ∷ ws)) (one j) ∙ ap passed (sym (get_or-take n ws j 0 (omega arith))))
+    ∙ ap (λ (m : ℕ). map passed (take m ws)) (sym z))
 
--- no word before number i is w
-pub record Missing (sets : List ℕ) (w i : ℕ) : Type 0 where
-  pub each : (m : ℕ) → 1 ≤ m → m < i → get_or sets m 0 ≡ w → ⊥
+-- one number is the other, whichever comes first
+eqb-turn : (w v : ℕ) → eqb w v ≡ eqb v w
+eqb-turn w v = grind (arith, nat_tests)
 
-pub missing_start : (sets : List ℕ) (w : ℕ) → Missing sets w 1
-missing_start sets w = record { each = λ m l h e. omega arith }
+any-words : (ws : List ℕ) (w : ℕ) → any (same_state (passed w)) (map passed ws) ≡ list_any (λ v. eqb v w) ws
+unfolding any same_state
+any-words [] w = refl
+any-words (v ∷ ws) w = ap₂ ◌||◌ (eqb-turn w v) (any-words ws w)
 
-pub missing_step : (sets : List ℕ) (w i : ℕ) → Missing sets w i → (get_or sets i 0 ≡ w → ⊥) → Missing sets w (i + 1)
-missing_step sets w i h k = record { each = λ m l g e. go m l g e (eqb m i) refl }
+number-words : (ws : List ℕ) (w : ℕ) → number_in same_state (map passed ws) (passed w) ≡ position_or_len (λ v. eqb v w) ws
+unfolding number_in same_state
+number-words [] w = refl
+number-words (v ∷ ws) w = rw (eqb-turn w v) (go (eqb v w) (number-words ws w))
   where
-    go : (m : ℕ) → 1 ≤ m → m < i + 1 → get_or sets m 0 ≡ w → (t : Bool) → eqb m i ≡ t → ⊥
-    go m l g e true q = k (ap (λ (x : ℕ). get_or sets x 0) (sym (eqb-true m i q)) ∙ e)
-    go m l g e false q = let n = eqb-false m i q in h.each m l (omega arith) e
-
-missing_test : (sets : List ℕ) (w i m : ℕ) → Missing sets w i → m < i → same_state (passed w) (state_at sets m) ≡ false
-unfolding state_at same_state
-missing_test sets w i zero h l = refl
-missing_test sets w i (suc m) h l = ne_eqb w (get_or sets (suc m) 0) (λ e. h.each (suc m) (omega arith) l (sym e))
-
-pub find_at : (sets : List ℕ) (n w i : ℕ) → 1 ≤ i → i < n → Missing sets w i → get_or sets i 0 ≡ w → i ≡ number_in same_state (listed sets n) (passed w)
-unfolding listed upto state_at same_state
-find_at sets n w i o l h e =
-    let z : 0 + i ≡ i = omega arith in
-    sym (number-from (state_at sets) (passed w) 0 n i l (λ m g. missing_test sets w i m h (omega arith)) (ap (λ (m : ℕ). same_state (passed w) (state_at sets m)) z ∙ here sets w i o e))
-  where
-    here : (sets : List ℕ) (w i : ℕ) → 1 ≤ i → get_or sets i 0 ≡ w → same_state (passed w) (state_at sets i) ≡ true
-    here sets w zero o e = absurd (omega arith)
-    here sets w (suc i) o e = eq-eqb w (get_or sets (suc i) 0) (sym e)
-
-pub find_none : (sets : List ℕ) (n w i : ℕ) → n ≤ i → Missing sets w i → n ≡ number_in same_state (listed sets n) (passed w)
-unfolding listed upto
-find_none sets n w i l h = sym (number-none (state_at sets) (passed w) 0 n (λ m g. missing_test sets w i m h (omega arith)))
+    go : (t : Bool) → number_in same_state (map passed ws) (passed w) ≡ position_or_len (λ v. eqb v w) ws
+        → cond t 0 (suc (number_in same_state (map passed ws) (passed w))) ≡ cond (not t) (1 + position_or_len (λ v. eqb v w) ws) 0
+    go true e = refl
+    go false e = omega arith
 
 -- ---- a state that was reached
 
-number-any : {A : Type 0} (same : A → A → Bool) (Q : List A) (x : A) → number_in same Q x < length Q → any (same x) Q ≡ true
-unfolding number_in any
-number-any same [] x = λ h. absurd (omega arith)
-number-any same (y ∷ Q) x = go (same x y) (λ k. number-any same Q x k)
-  where
-    go : (t : Bool) → (number_in same Q x < length Q → any (same x) Q ≡ true) → cond t 0 (suc (number_in same Q x)) < length (y ∷ Q)
-        → (t || any (same x) Q) ≡ true
-    go true r h = refl
-    go false r h = r (omega arith)
+any-listed : (sets : List ℕ) (n w : ℕ) → 1 ≤ n → n ≤ length sets → any (same_state (passed w)) (listed sets n) ≡ list_any (λ v. eqb v w) (slice_range sets 1 n)
+unfolding any same_state
+any-listed sets n w o h = ap (any (same_state (passed w))) (listed-words sets n o h) ∙ any-words (slice_range sets 1 n) w
 
-any-number : {A : Type 0} (same : A → A → Bool) (Q : List A) (x : A) → length Q ≤ number_in same Q x → any (same x) Q ≡ false
-unfolding number_in any
-any-number same [] x = λ h. refl
-any-number same (y ∷ Q) x = go (same x y) (λ k. any-number same Q x k)
-  where
-    go : (t : Bool) → (length Q ≤ number_in same Q x → any (same x) Q ≡ false) → length (y ∷ Q) ≤ cond t 0 (suc (number_in same Q x))
-        → (t || any (same x) Q) ≡ false
-    go true r h = absurd (omega arith)
-    go false r h = r (omega arith)
-
-pub add-old : (sets : List ℕ) (n w i : ℕ) → i ≡ number_in same_state (listed sets n) (passed w) → i < n
-    → listed sets n ≡ reach same_state (listed sets n) (passed w)
+pub add-old : (sets : List ℕ) (n w : ℕ) → 1 ≤ n → n ≤ length sets → list_any (λ v. eqb v w) (slice_range sets 1 n) ≡ true
+    → reach same_state (listed sets n) (passed w) ≡ listed sets n
 unfolding reach
-add-old sets n w i e l =
-    let q = listed-length sets n in
-    rw (number-any same_state (listed sets n) (passed w) (omega arith))
+add-old sets n w o h e = rw (any-listed sets n w o h, e)
+
+reach-new : (sets : List ℕ) (n w : ℕ) → 1 ≤ n → n ≤ length sets → list_any (λ v. eqb v w) (slice_range sets 1 n) ≡ false
+    → reach same_state (listed sets n) (passed w) ≡ listed sets n ++ (passed w ∷ [])
+unfolding reach
+reach-new sets n w o h e = rw (any-listed sets n w o h, e)
+
+pub add-full : (sets : List ℕ) (n w : ℕ) → 1 ≤ n → n ≤ length sets → list_any (λ v. eqb v w) (slice_range sets 1 n) ≡ false → n ≡ 32
+    → 32 < length (reach same_state (listed sets n) (passed w))
+add-full sets n w o h e full =
+    omega (arith, ap length (reach-new sets n w o h e), length-append (listed sets n) (passed w ∷ []), listed-length sets n)
 
 more : (sets : List ℕ) (n w : ℕ) → listed (set sets n w) (n + 1) ≡ listed (set sets n w) n ++ (state_at (set sets n w) n ∷ [])
 unfolding listed
 more sets n w = upto-more (state_at (set sets n w)) n
 
-pub add-new : (sets : List ℕ) (n w i : ℕ) → i ≡ number_in same_state (listed sets n) (passed w) → n ≤ i → 1 ≤ n → n < length sets
-    → listed (set sets n w) (n + 1) ≡ reach same_state (listed sets n) (passed w)
-unfolding reach
-add-new sets n w i e l o h =
-    let q = listed-length sets n in
-    rw (any-number same_state (listed sets n) (passed w) (omega arith)) (more sets n w ∙ ap₂ (λ (Q : List State) (x : State). Q ++ (x ∷ [])) (listed-set sets n w) (state-new sets n w o h))
+pub add-new : (sets : List ℕ) (n w : ℕ) → 1 ≤ n → n < length sets → list_any (λ v. eqb v w) (slice_range sets 1 n) ≡ false
+    → reach same_state (listed sets n) (passed w) ≡ listed (set sets n w) (n + 1)
+add-new sets n w o h e =
+    reach-new sets n w o (omega arith) e
+    ∙ sym (more sets n w ∙ ap₂ (λ (Q : List State) (x : State). Q ++ (x ∷ [])) (listed-set sets n w) (state-new sets n w o h))
+
+-- ---- the number of a state, by where its set is found
+
+number-listed : (sets : List ℕ) (w : ℕ) → 1 ≤ length sets
+    → number_in same_state (listed sets (length sets)) (passed w) ≡ suc (position_or_len (λ v. eqb v w) (slice_range sets 1 (length sets)))
+unfolding number_in same_state
+number-listed sets w l = rw (listed-words sets (length sets) l (omega arith), number-words (slice_range sets 1 (length sets)) w)
+
+pub find_at : (sets : List ℕ) (w i : ℕ) → 1 ≤ length sets → position (λ v. eqb v w) (slice_range sets 1 (length sets)) ≡ Some i
+    → i + 1 ≡ number_in same_state (listed sets (length sets)) (passed w)
+find_at sets w i l e = let h = cond_some _ _ _ e in omega (arith, h.1, number-listed sets w l)
+
+pub find_none : (sets : List ℕ) (w : ℕ) → 1 ≤ length sets → position (λ v. eqb v w) (slice_range sets 1 (length sets)) ≡ None
+    → length sets ≡ number_in same_state (listed sets (length sets)) (passed w)
+find_none sets w l e =
+    let h = ltb-false _ _ (past _ _ e) in
+    let whole = length-take (length sets - 1) (drop 1 sets) in
+    omega (arith, h, whole, number-listed sets w l, prefix_len-le-length (λ v. not (eqb v w)) (slice_range sets 1 (length sets)), length-drop 1 sets)
+  where
+    past : (t : Bool) (x : ℕ) → cond t (Some x) None ≡ None → t ≡ false
+    past true x e = cc
+    past false x e = refl
+
+-- ---- the states numbered so far, as a list of their own
+
+state-taken : (sets : List ℕ) (n i : ℕ) → i < n → state_at (take n sets) i ≡ state_at sets i
+unfolding state_at
+state-taken sets n zero l = refl
+state-taken sets n (suc i) l = ap passed (get_or-take n sets (suc i) 0 l)
+
+pub ahead-taken : (firsts : ℕ) (F sets T : List ℕ) (n i r : ℕ) → T ≡ take n sets → i < n → r ≡ ahead_in firsts F (state_at T i)
+    → r ≡ ahead_in firsts F (state_at sets i)
+ahead-taken firsts F sets T n i r e l h = h ∙ ap (ahead_in firsts F) (ap (λ (S : List ℕ). state_at S i) e ∙ state-taken sets n i l)
+
+pub listed-taken : (sets : List ℕ) (n : ℕ) → listed (take n sets) n ≡ listed sets n
+unfolding listed
+listed-taken sets n = map_cong (state_at (take n sets)) (state_at sets) (upto n) (λ j m. state-taken sets n j (of-upto n m))
 
 -- ---- the letters that may come in state i
 
@@ -170,9 +191,8 @@ number_le same (y ∷ Q) x = go (same x y) (number_le same Q x)
     go true l = omega arith
     go false l = omega arith
 
-pub number_small : (sets : List ℕ) (n : ℕ) (x : State) (r : ℕ) → n ≤ 32 → r ≡ number_in same_state (listed sets n) x
-    → r % 256 ≡ number_in same_state (listed sets n) x
-number_small sets n x r l e =
+pub number-most : (sets : List ℕ) (n : ℕ) (x : State) (r : ℕ) → r ≡ number_in same_state (listed sets n) x → r ≤ n
+number-most sets n x r e =
     let a = number_le same_state (listed sets n) x in
     let b = listed-length sets n in
     omega arith

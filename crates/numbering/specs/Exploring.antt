@@ -1,5 +1,5 @@
 -- The states over what is known of a text: the letters of each symbol, the first letters, and the letters that follow each place. Assumes nothing.
-use Rattle.std.specs.Prelude.{◌≡◌, cond, List, [], ◌∷◌, map, ℕ, zero, suc, ◌≤◌, ◌<◌, ltb, length, get_or}
+use Rattle.std.specs.Prelude.{cond, List, [], ◌∷◌, map, ℕ, zero, suc, ltb, length, get_or}
 use Rattle.std.specs.Int.Bits.{bit_and, bit_or}
 use Rattle.model.specs.Lists.{upto}
 use Rattle.model.specs.Words.{bits, union}
@@ -20,13 +20,6 @@ state_at sets (suc i) = passed (get_or sets (suc i) 0)
 -- the first n states that the words stand for
 unfoldable pub listed : List ℕ → ℕ → List State
 listed sets n = map (state_at sets) (upto n)
-
--- the definition's list stands in the words; past 32 states it is only known to be longer than that
-pub record Stands (sets : List ℕ) (n : ℕ) (Q : List State) : Type 0 where
-  pub some-state : 1 ≤ n
-  pub few : n ≤ 33
-  pub same : n ≤ 32 → Q ≡ listed sets n
-  pub long : 32 < n → 32 < length Q
 
 -- the letters that may come next
 unfoldable pub ahead_in : ℕ → List ℕ → State → ℕ

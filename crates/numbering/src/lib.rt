@@ -1,177 +1,145 @@
 // Numbers the states of a pattern in the order in which they are first reached.
 //
-// Assumes nothing. `places` has the letters of each symbol, `follow` and `first` are what the readers leave; `sets` gets the set of each state but the start.
+// Assumes nothing. The letters are what the readers leave, and the places of each symbol; a state is the set of the letters that were just passed.
 
 #![tactic(auto)]
 
-ghost use Rattle.std.specs.Prelude.{◌≡◌, List, map, ℕ, ◌+◌, ◌<◌, ◌≤◌, length, get_or};
-ghost use Rattle.std.specs.Int.Bits.{bit_and};
+ghost use Rattle.std.specs.Prelude.{◌≡◌, ◌==◌, map, ℕ, ◌<◌, ◌≤◌, length, get_or, take, position, MatchOption};
 ghost use Rattle.model.specs.Words.{bits, union};
-ghost use Rattle.model.specs.PatternStates.{State, start, passed};
+ghost use Rattle.model.specs.PatternStates.{passed};
 ghost use Rattle.model.specs.Numbering.{number_in, reach, reach_all};
 ghost use Rattle.model.specs.Compile.{same_state};
-ghost use Rattle.numbering.specs.Exploring.{state_at, listed, Stands, ahead_in, advance_in, successors_in, visited, states_in};
+ghost use Rattle.numbering.specs.Exploring.{state_at, listed, ahead_in, advance_in, successors_in, visited, states_in};
 
-// The letters that may come after a letter of the set.
-fn gather(follow: &[u64], w: u64) -> u64
-    requires { length follow.now ≡ 64 }
-    ensures { result ≡ union (map (λ (p : ℕ). get_or follow.now p 0) (bits w)) }
-{
-    let mut rest = w;
-    let mut r = 0u64;
-    while rest != 0 {
-        let p = words::lowest(rest);
-        r = r | follow[p];
-        rest = rest - words::singleton(p);
-    }
-    r
+// What is known of a text for k symbols: the letters of each symbol, the letters that may follow each place, and the first letters.
+#[derive(Drop)]
+pub struct Letters {
+    pub places: [u64; 64],
+    pub follow: [u64; 64],
+    pub first: u64,
+    pub k: usize,
+    ghost k_bound: { k ≤ 64 },
 }
 
-// The letters that may come in state i.
-fn ahead(follow: &[u64], first: u64, sets: &[u64], i: usize) -> u64
-    requires follow_len { length follow.now ≡ 64 }
-    requires i_in_bounds { i < length sets.now }
-    ensures { result ≡ ahead_in first follow.now (state_at sets.now i) }
-{
-    if i == 0 {
-        return first;
-    }
-    gather(follow, sets[i])
+// The states that were reached, at most 32: the set of each, but for the start, which is state 0, and how many there are.
+#[derive(Drop)]
+pub struct States {
+    pub sets: [u64; 32],
+    pub count: usize,
+    ghost some_state: { 1 ≤ count },
+    ghost few: { count ≤ 32 },
 }
 
-// The number of a set among the states numbered so far, n where it is new.
-fn find(sets: &[u64], n: usize, w: u64) -> usize
-    requires le_n { 1 ≤ n }
-    requires n_in_bounds { n ≤ length sets.now }
-    ensures { result ≡ number_in same_state (listed sets.now n) (passed w) }
+// Where a set stands among others, if it is one of them.
+fn find(sets: &[u64], w: u64) -> Option<usize>
+    ensures { result ≡ position (λ v. v == w) sets.now }
 {
-    for i in 1..n {
-        if sets[i] == w {
-            return i;
+    sets.iter().position(|set| *set == w)
+}
+
+impl States {
+    // The start alone.
+    fn new() -> States
+        ensures { result.count ≡ 1 }
+    {
+        States {
+            sets: [0; 32],
+            count: 1,
         }
     }
-    n
+
+    // The sets of the states; the start's means nothing.
+    pub fn numbered(&self) -> &[u64]
+        ensures { result.now ≡ take self.now.count self.now.sets }
+    {
+        &self.sets[..self.count]
+    }
+
+    // A set that was reached: a new one gets the next number, if there is one.
+    fn add(&mut self, w: u64) -> Option<()>
+        ensures { let Q = reach same_state (listed self.old.sets self.old.count) (passed w) in MatchOption result (32 < length Q) (λ u. Q ≡ listed self.new.sets self.new.count) }
+    {
+        if self.sets[1..self.count].contains(&w) {
+            return Some(());
+        }
+        if self.count == 32 {
+            return None;
+        }
+        self.sets[self.count] = w;
+        self.count += 1;
+        Some(())
+    }
 }
 
-// A set that was reached: a new one gets the next number.
-fn add(sets: &mut [u64], n: usize, w: u64) -> usize
-    requires le_n { 1 ≤ n }
-    requires n_in_bounds { n < length sets.old }
-    ensures { (listed sets.new result ≡ reach same_state (listed sets.old n) (passed w)) × (n ≤ result) × (result ≤ n + 1) }
-{
-    let i = find(sets, n, w);
-    if i < n {
-        return n;
+impl Letters {
+    // The letters that may come after a letter of the set.
+    fn gather(&self, w: u64) -> u64
+        ensures { result ≡ union (map (λ (p : ℕ). get_or self.now.follow p 0) (bits w)) }
+    {
+        let mut r = 0;
+        for p in words::each_bit(w) {
+            r |= self.follow[p];
+        }
+        r
     }
-    sets[n] = w;
-    n + 1
-}
 
-// One symbol tried where the letters `here` may come, unless there are too many states already.
-fn try_symbol(places: &[u64], here: u64, sets: &mut [u64], n: usize, a: usize) -> usize
-    requires places_len { length places.now ≡ 64 }
-    requires sets_len { length sets.old ≡ 33 }
-    requires le_n { 1 ≤ n }
-    requires a_bound { a < 64 }
-    ensures says { (Q : List State) → Stands sets.old n Q → Stands sets.new result (reach same_state Q (passed (bit_and here (get_or places.now a 0)))) }
-    ensures more { n ≤ result }
-{
-    if 32 < n {
-        return n;
+    // The letters that may come in state i.
+    fn ahead(&self, sets: &[u64], i: usize) -> u64
+        requires { i < length sets.now }
+        ensures { result ≡ ahead_in self.now.first self.now.follow (state_at sets.now i) }
+    {
+        if i == 0 {
+            self.first
+        } else {
+            self.gather(sets[i])
+        }
     }
-    add(sets, n, here & places[a])
-}
 
-// State i taken, its symbols tried upwards.
-fn take_state(
-    places: &[u64],
-    k: usize,
-    follow: &[u64],
-    first: u64,
-    sets: &mut [u64],
-    q: usize,
-    i: usize,
-) -> usize
-    requires places_len { length places.now ≡ 64 }
-    requires k_bound { k ≤ 64 }
-    requires follow_len { length follow.now ≡ 64 }
-    requires sets_len { length sets.old ≡ 33 }
-    requires i_lt_q { i < q }
-    requires q_bound { q ≤ 32 }
-    ensures { (Q : List State) → Stands sets.old q Q → Stands sets.new result (reach_all same_state Q (successors_in k places.now first follow.now (get_or Q i start))) }
-{
-    let here = ahead(follow, first, sets, i);
-    let mut n = q;
-    for a in 0..k {
-        n = try_symbol(places, here, sets, n, a);
+    // State i taken, its symbols tried upwards, unless too many states are reached.
+    fn take_state(&self, states: &mut States, i: usize) -> Option<()>
+        requires { i < states.old.count }
+        ensures { let Q = reach_all same_state (listed states.old.sets states.old.count) (successors_in self.now.k self.now.places self.now.first self.now.follow (state_at states.old.sets i)) in MatchOption result (32 < length Q) (λ u. Q ≡ listed states.new.sets states.new.count) }
+    {
+        let here = self.ahead(states.numbered(), i);
+        for a in 0..self.k {
+            states.add(here & self.places[a])?;
+        }
+        Some(())
     }
-    n
-}
 
-// State i taken, if there is one and there are not too many.
-fn visit(
-    places: &[u64],
-    k: usize,
-    follow: &[u64],
-    first: u64,
-    sets: &mut [u64],
-    n: usize,
-    i: usize,
-) -> usize
-    requires places_len { length places.now ≡ 64 }
-    requires k_bound { k ≤ 64 }
-    requires follow_len { length follow.now ≡ 64 }
-    requires sets_len { length sets.old ≡ 33 }
-    requires i_bound { i < 32 }
-    ensures { (Q : List State) → Stands sets.old n Q → Stands sets.new result (visited k places.now first follow.now Q i) }
-{
-    if n <= i {
-        return n;
+    // State i taken, if there is one.
+    fn visit(&self, states: &mut States, i: usize) -> Option<()>
+        ensures { let Q = visited self.now.k self.now.places self.now.first self.now.follow (listed states.old.sets states.old.count) i in MatchOption result (32 < length Q) (λ u. Q ≡ listed states.new.sets states.new.count) }
+    {
+        if states.count <= i {
+            return Some(());
+        }
+        self.take_state(states, i)
     }
-    if 32 < n {
-        return n;
-    }
-    take_state(places, k, follow, first, sets, n, i)
-}
 
-// The number of states, 33 for more than 32.
-pub fn number_states(
-    places: &[u64],
-    k: usize,
-    follow: &[u64],
-    first: u64,
-    sets: &mut [u64],
-) -> usize
-    requires places_len { length places.now ≡ 64 }
-    requires k_bound { k ≤ 64 }
-    requires follow_len { length follow.now ≡ 64 }
-    requires sets_len { length sets.old ≡ 33 }
-    ensures { Stands sets.new result (states_in k places.now first follow.now) }
-{
-    let mut n = 1;
-    for i in 0..32 {
-        n = visit(places, k, follow, first, sets, n, i);
+    // The states of the text, unless there are more than 32.
+    pub fn number_states(&self) -> Option<States>
+        ensures { let Q = states_in self.now.k self.now.places self.now.first self.now.follow in MatchOption result (32 < length Q) (λ states. Q ≡ listed states.sets states.count) }
+    {
+        let mut states = States::new();
+        for i in 0..32 {
+            self.visit(&mut states, i)?;
+        }
+        Some(states)
     }
-    n
-}
 
-// The number of the state that symbol a leads to from state i, n where it has none yet.
-pub fn move_of(
-    places: &[u64],
-    follow: &[u64],
-    first: u64,
-    sets: &[u64],
-    n: usize,
-    i: usize,
-    a: usize,
-) -> usize
-    requires places_len { length places.now ≡ 64 }
-    requires follow_len { length follow.now ≡ 64 }
-    requires n_in_bounds { n ≤ length sets.now }
-    requires i_lt_n { i < n }
-    requires a_bound { a < 64 }
-    ensures { result ≡ number_in same_state (listed sets.now n) (advance_in places.now first follow.now (state_at sets.now i) a) }
-{
-    let here = ahead(follow, first, sets, i);
-    find(sets, n, here & places[a])
+    // The number of the state that symbol a leads to from state i, the number of states where it has none yet: no Option, since the definition `number_in`, which
+    // this promises, has the length of the list there.
+    pub fn move_of(&self, sets: &[u64], i: usize, a: usize) -> usize
+        requires i_in_bounds { i < length sets.now }
+        requires a_bound { a < 64 }
+        ensures { result ≡ number_in same_state (listed sets.now (length sets.now)) (advance_in self.now.places self.now.first self.now.follow (state_at sets.now i) a) }
+    {
+        let here = self.ahead(sets, i);
+        let next = here & self.places[a];
+        match find(&sets[1..], next) {
+            Some(j) => j + 1,
+            None => sets.len(),
+        }
+    }
 }

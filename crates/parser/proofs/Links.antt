@@ -37,9 +37,9 @@ module _ (F : List ℕ) (lasts firsts : ℕ) where
     pub link-end : rest ≡ 0 → Linked F lasts firsts G
     link-end e = record { size = linking.size; each = λ p l. linking.done p l (ap (λ (w : ℕ). bit w p) e ∙ zero_bit p) }
 
-    pub link-step : length F ≡ 64 → (q o : ℕ) → Lowest rest q → o ≡ 2 ^ q → Linking F lasts firsts (rest - o) (set G q (bit_or (get_or G q 0) firsts))
+    pub link-step : length F ≡ 64 → (q : ℕ) → Lowest rest q → Linking F lasts firsts (rest - 2 ^ q) (set G q (bit_or (get_or G q 0) firsts))
     unfolding when
-    link-step long q o low e =
+    link-step long q low =
         record {
           size = length-set G q (bit_or (get_or G q 0) firsts) ∙ linking.size;
           inside = λ p h. linking.inside p (other p h).0;
@@ -47,11 +47,11 @@ module _ (F : List ℕ) (lasts firsts : ℕ) where
           done = λ p l h. go p l (eqb q p) refl (sym (left p) ∙ h);
         }
       where
-        left : (p : ℕ) → bit (rest - o) p ≡ (bit rest p && not (eqb q p))
-        left p = ap (λ (w : ℕ). bit (rest - w) p) e ∙ bit-sub rest q p low.here
+        left : (p : ℕ) → bit (rest - 2 ^ q) p ≡ (bit rest p && not (eqb q p))
+        left p = bit-sub rest q p low.here
 
         -- what is left was there, and is another letter
-        other : (p : ℕ) → bit (rest - o) p ≡ true → (bit rest p ≡ true) × (p ≡ q → ⊥)
+        other : (p : ℕ) → bit (rest - 2 ^ q) p ≡ true → (bit rest p ≡ true) × (p ≡ q → ⊥)
         other p h =
             let t = and_true (bit rest p) (not (eqb q p)) (sym (left p) ∙ h) in
             (t.0, λ k. false≢true (sym (ap not (eq-eqb q p (sym k))) ∙ t.1))

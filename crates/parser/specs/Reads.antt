@@ -1,13 +1,11 @@
 -- What the readers answer, held to the definition's pattern. Assumes nothing.
-use Rattle.std.specs.Prelude.{◌≡◌, ◌&&◌, ◌||◌, List, ℕ, ◌<◌, ◌≤◌, length, get_or}
+use Rattle.std.specs.Prelude.{◌≡◌, ◌&&◌, ◌||◌, List, ℕ, ◌<◌, ◌≤◌, Option, Some, None, length, get_or}
 use Rattle.std.specs.Int.Bits.{bit_or}
 use Rattle.model.specs.Words.{bit}
 use Rattle.model.specs.Pattern.{Pattern}
 use Rattle.model.specs.PatternText.{Parsed, bad, parsed, starred}
 use Rattle.model.specs.PatternStates.{when, nullable, first, last, follow}
 use Rattle.parser.specs.declared.Part.{Part}
-use Rattle.parser.specs.declared.Read.{Read}
-use Rattle.parser.specs.declared.Read.TheVariants.{Found, Bad}
 
 -- one of two parts, and one part after the other
 abbrev pub EitherOf : Part → Part → Part → Type 0
@@ -38,19 +36,19 @@ pub record Followed (F : List ℕ) (e : Pattern) (G : List ℕ) : Type 0 where
   pub each : (p : ℕ) → p < 64 → get_or G p 0 ≡ bit_or (get_or F p 0) (follow e p)
 
 -- the readers' answer is the definition's: the same refusal, or the pattern's sets
-unfoldable pub Says : List ℕ → List ℕ → Parsed → Read → Type 0
-Says F G bad Bad = Unit
-Says F G bad (Found r) = ⊥
-Says F G (parsed e q) Bad = ⊥
-Says F G (parsed e q) (Found r) = Holds e q r × Followed F e G
+unfoldable pub Says : List ℕ → List ℕ → Parsed → Option Part → Type 0
+Says F G bad None = Unit
+Says F G bad (Some r) = ⊥
+Says F G (parsed e q) None = ⊥
+Says F G (parsed e q) (Some r) = Holds e q r × Followed F e G
 
 -- an item that ends at place p, with the `*` that may follow it
 pub record Starred (s : List ℕ) (p : ℕ) (a r : Part) (F G : List ℕ) : Type 0 where
-  pub says : (e : Pattern) (q : ℕ) (B : List ℕ) → Holds e q a → Followed B e F → Says B G (starred s e p) (Found r)
+  pub says : (e : Pattern) (q : ℕ) (B : List ℕ) → Holds e q a → Followed B e F → Says B G (starred s e p) (Some r)
   pub low : p ≤ r.end
   pub high : r.end ≤ length s
 
 -- a reading's end lies from lo to hi
-unfoldable pub Within : ℕ → ℕ → Read → Type 0
-Within lo hi (Found r) = (lo ≤ r.end) × (r.end ≤ hi)
-Within lo hi Bad = Unit
+abbrev pub Within : ℕ → ℕ → Option Part → Type 0
+Within lo hi (Some r) = (lo ≤ r.end) × (r.end ≤ hi)
+Within lo hi None = Unit

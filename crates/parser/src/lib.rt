@@ -18,93 +18,28 @@ pub struct Part {
     pub last: u64,
 }
 
-#[derive(Clone, Copy)]
-pub enum Read {
-    Found(Part),
-    Bad,
-}
-
-// The symbol of a byte, 39 for a byte that is no letter.
+// The symbol of a byte, 39 for a byte that is no letter: a number and no Option, since the definition `symbol_of`, which this promises, has 39 there.
+#[tactic(auto, using(std::proofs::lemmas::Bool::Decides::nat_tests), unfolding(model::specs::PatternText::symbol_of))]
 pub fn symbol_of(b: u8) -> u8
     ensures { result ≡ symbol_of b }
 {
-    if b < 45 {
-        return 39;
+    match b {
+        b'0'..=b'9' => b - b'0',
+        b'.' => 10,
+        b'a'..=b'z' => b - b'a' + 11,
+        b'-' => 37,
+        b'/' => 38,
+        _ => 39,
     }
-    if b == 45 {
-        return 37;
-    }
-    if b == 46 {
-        return 10;
-    }
-    if b == 47 {
-        return 38;
-    }
-    if b <= 57 {
-        return b - 48;
-    }
-    if b < 97 {
-        return 39;
-    }
-    if b <= 122 {
-        return b - 86;
-    }
-    39
-}
-
-// Whether byte b stands at place p.
-fn sees(s: &[u8], p: usize, b: u8) -> bool
-    ensures { result ≡ sees s.now p b }
-{
-    if p < s.len() {
-        return s[p] == b;
-    }
-    false
-}
-
-// Whether no item begins at place p.
-fn is_end(s: &[u8], p: usize) -> bool
-    ensures { result ≡ ended s.now p }
-{
-    if s.len() <= p {
-        return true;
-    }
-    let b = s[p];
-    if b == b'|' {
-        return true;
-    }
-    b == b')'
 }
 
 // After each letter of `last` the letters of `first` may come.
-fn link(follow: &mut [u64], last: u64, first: u64)
-    requires { length follow.old ≡ 64 }
+fn link(follow: &mut [u64; 64], last: u64, first: u64)
     ensures { Linked follow.old last first follow.new }
 {
-    let mut rest = last;
-    while rest != 0 {
-        let p = words::lowest(rest);
-        follow[p] = follow[p] | first;
-        rest = rest - words::singleton(p);
+    for p in words::each_bit(last) {
+        follow[p] |= first;
     }
-}
-
-fn one_of(a: bool, b: bool) -> bool
-    ensures { result ≡ (a || b) }
-{
-    if a {
-        return true;
-    }
-    b
-}
-
-fn both_of(a: bool, b: bool) -> bool
-    ensures { result ≡ (a && b) }
-{
-    if a {
-        return b;
-    }
-    false
 }
 
 // One of two parts.
@@ -113,20 +48,18 @@ fn either(a: Part, b: Part) -> Part
 {
     Part {
         end: b.end,
-        nullable: one_of(a.nullable, b.nullable),
+        nullable: a.nullable || b.nullable,
         first: a.first | b.first,
         last: a.last | b.last,
     }
 }
 
 // The set, if the test passes.
+#[tactic(auto, unfolding(model::specs::PatternStates::when))]
 fn taken(t: bool, w: u64) -> u64
     ensures { result ≡ when t w }
 {
-    if t {
-        return w;
-    }
-    0
+    if t { w } else { 0 }
 }
 
 // One part after the other.
@@ -135,135 +68,124 @@ fn both(a: Part, b: Part) -> Part
 {
     Part {
         end: b.end,
-        nullable: both_of(a.nullable, b.nullable),
+        nullable: a.nullable && b.nullable,
         first: a.first | taken(a.nullable, b.first),
         last: taken(b.nullable, a.last) | b.last,
     }
 }
 
-// An item that ends at place p, with the `*` that may follow it.
-fn star(s: &[u8], p: usize, a: Part, follow: &mut [u64]) -> Part
-    requires s_len_bound { length s.now < 64 }
-    requires follow_len { length follow.old ≡ 64 }
-    requires p_in_bounds { p ≤ length s.now }
-    ensures { Starred s.now p a result follow.old follow.new }
-{
-    if sees(s, p, b'*') {
-        link(follow, a.last, a.first);
-        return Part {
-            end: p + 1,
-            nullable: true,
-            first: a.first,
-            last: a.last,
-        };
-    }
-    Part {
-        end: p,
-        nullable: a.nullable,
-        first: a.first,
-        last: a.last,
-    }
+// A text that is read; a set of its places is one word. The follow sets are lent beside it: where a struct holds a `&mut`, each method has to promise that the
+// text and the reference stay.
+#[derive(Clone, Copy)]
+struct Text<'a> {
+    bytes: &'a [u8],
+    ghost short: { length bytes.now < 64 },
 }
 
-// A pattern that begins at this place.
-#[cycle(branch_item_pattern)]
-fn pattern(s: &[u8], at: usize, follow: &mut [u64]) -> Read
-    requires at_in_bounds { at ≤ length s.now }
-    requires s_len_bound { length s.now < 64 }
-    requires follow_len { length follow.old ≡ 64 }
-    ensures says { (n : ℕ) → 3 * (length s.now - at) + 2 < n → Says follow.old follow.new (pattern_at n s.now at) result }
-    ensures within { Within at (length s.now) result }
-{
-    let Read::Found(a) = branch(s, at, follow) else {
-        return Read::Bad;
-    };
-    let p = a.end;
-    if sees(s, p, b'|') {
-        let Read::Found(b) = pattern(s, p + 1, follow) else {
-            return Read::Bad;
-        };
-        return Read::Found(either(a, b));
+impl Text<'_> {
+    // Whether byte b stands at place p.
+    fn sees(&self, p: usize, b: u8) -> bool
+        ensures { result ≡ sees self.now.bytes.now p b }
+    {
+        self.bytes.get(p) == Some(&b)
     }
-    Read::Found(a)
-}
 
-// A branch: items up to `|`, `)` or the end.
-#[cycle(branch_item_pattern)]
-fn branch(s: &[u8], at: usize, follow: &mut [u64]) -> Read
-    requires at_in_bounds { at ≤ length s.now }
-    requires s_len_bound { length s.now < 64 }
-    requires follow_len { length follow.old ≡ 64 }
-    ensures says { (n : ℕ) → 3 * (length s.now - at) + 1 < n → Says follow.old follow.new (branch_at n s.now at) result }
-    ensures within { Within at (length s.now) result }
-{
-    if is_end(s, at) {
-        return Read::Found(Part {
-            end: at,
-            nullable: true,
-            first: 0,
-            last: 0,
-        });
+    // Whether no item begins at place p.
+    #[tactic(auto, using(std::proofs::lemmas::Bool::Decides::nat_tests), unfolding(model::specs::PatternText::ended))]
+    fn is_end(&self, p: usize) -> bool
+        ensures { result ≡ ended self.now.bytes.now p }
+    {
+        self.bytes.len() <= p || matches!(self.bytes[p], b'|' | b')')
     }
-    let Read::Found(a) = item(s, at, follow) else {
-        return Read::Bad;
-    };
-    let p = a.end;
-    let Read::Found(b) = branch(s, p, follow) else {
-        return Read::Bad;
-    };
-    link(follow, a.last, b.first);
-    Read::Found(both(a, b))
-}
 
-// A letter or a group, and the `*` after it.
-#[cycle(branch_item_pattern)]
-fn item(s: &[u8], at: usize, follow: &mut [u64]) -> Read
-    requires at_in_bounds { at < length s.now }
-    requires s_len_bound { length s.now < 64 }
-    requires follow_len { length follow.old ≡ 64 }
-    ensures says { (n : ℕ) → 3 * (length s.now - at) < n → Says follow.old follow.new (item_at n s.now at) result }
-    ensures within { Within (at + 1) (length s.now) result }
-{
-    let b = s[at];
-    if b == b'(' {
-        let Read::Found(a) = pattern(s, at + 1, follow) else {
-            return Read::Bad;
-        };
-        let p = a.end;
-        if sees(s, p, b')') {
-            return Read::Found(star(s, p + 1, a, follow));
+    // An item that ends at place p, with the `*` that may follow it.
+    fn star(&self, p: usize, a: Part, follow: &mut [u64; 64]) -> Part
+        requires { p ≤ length self.now.bytes.now }
+        ensures { Starred self.now.bytes.now p a result follow.old follow.new }
+    {
+        if self.sees(p, b'*') {
+            link(follow, a.last, a.first);
+            return Part {
+                end: p + 1,
+                nullable: true,
+                ..a
+            };
         }
-        return Read::Bad;
+        Part { end: p, ..a }
     }
-    if symbol_of(b) < 39 {
-        let only = 1u64 << at;
-        return Read::Found(star(
-            s,
-            at + 1,
-            Part {
+
+    // A pattern that begins at this place.
+    #[cycle(branch_item_pattern)]
+    #[tactic(auto, using(patterns::proofs::FuelLaws::sees_lt))]
+    fn pattern(&self, at: usize, follow: &mut [u64; 64]) -> Option<Part>
+        requires { at ≤ length self.now.bytes.now }
+        ensures says { (n : ℕ) → 3 * (length self.now.bytes.now - at) + 2 < n → Says follow.old follow.new (pattern_at n self.now.bytes.now at) result }
+        ensures within { Within at (length self.now.bytes.now) result }
+    {
+        let a = self.branch(at, follow)?;
+        if self.sees(a.end, b'|') {
+            let b = self.pattern(a.end + 1, follow)?;
+            return Some(either(a, b));
+        }
+        Some(a)
+    }
+
+    // A branch: items up to `|`, `)` or the end.
+    #[cycle(branch_item_pattern)]
+    fn branch(&self, at: usize, follow: &mut [u64; 64]) -> Option<Part>
+        requires { at ≤ length self.now.bytes.now }
+        ensures says { (n : ℕ) → 3 * (length self.now.bytes.now - at) + 1 < n → Says follow.old follow.new (branch_at n self.now.bytes.now at) result }
+        ensures within { Within at (length self.now.bytes.now) result }
+    {
+        if self.is_end(at) {
+            return Some(Part {
+                end: at,
+                nullable: true,
+                first: 0,
+                last: 0,
+            });
+        }
+        let a = self.item(at, follow)?;
+        let b = self.branch(a.end, follow)?;
+        link(follow, a.last, b.first);
+        Some(both(a, b))
+    }
+
+    // A letter or a group, and the `*` after it.
+    #[cycle(branch_item_pattern)]
+    #[tactic(auto, using(patterns::proofs::FuelLaws::sees_lt))]
+    fn item(&self, at: usize, follow: &mut [u64; 64]) -> Option<Part>
+        requires { at < length self.now.bytes.now }
+        ensures says { (n : ℕ) → 3 * (length self.now.bytes.now - at) < n → Says follow.old follow.new (item_at n self.now.bytes.now at) result }
+        ensures within { Within (at + 1) (length self.now.bytes.now) result }
+    {
+        let b = self.bytes[at];
+        if b == b'(' {
+            let a = self.pattern(at + 1, follow)?;
+            if self.sees(a.end, b')') {
+                return Some(self.star(a.end + 1, a, follow));
+            }
+            return None;
+        }
+        if symbol_of(b) < 39 {
+            let only = words::singleton(at);
+            let letter = Part {
                 end: at + 1,
                 nullable: false,
                 first: only,
                 last: only,
-            },
-            follow,
-        ));
+            };
+            return Some(self.star(at + 1, letter, follow));
+        }
+        None
     }
-    Read::Bad
 }
 
 // The whole text is one pattern. The lent array gets, at each letter's place, the letters that may come right after it.
-pub fn read_text(s: &[u8], follow: &mut [u64]) -> Read
-    requires s_len_bound { length s.now < 64 }
-    requires follow_len { length follow.old ≡ 64 }
+pub fn read_text(s: &[u8], follow: &mut [u64; 64]) -> Option<Part>
+    requires { length s.now < 64 }
     ensures { Says follow.old follow.new (parse s.now) result }
 {
-    let Read::Found(a) = pattern(s, 0, follow) else {
-        return Read::Bad;
-    };
-    let end = a.end;
-    if end == s.len() {
-        return Read::Found(a);
-    }
-    Read::Bad
+    let a = Text { bytes: s }.pattern(0, follow)?;
+    if a.end == s.len() { Some(a) } else { None }
 }

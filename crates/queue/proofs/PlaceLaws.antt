@@ -1,43 +1,38 @@
 -- Where the variables of a step stand in the index, and the words of the index there. Assumes nothing.
 use mathlib.Core.Path.{◌≡◌, refl, sym, ap, subst, ◌∙◌}
-use mathlib.Core.Bool.{Bool, true, false, not, ◌&&◌, false≢true}
+use mathlib.Core.Bool.{Bool, true, false, not, ◌&&◌, ◌||◌, false≢true}
 use mathlib.Core.List.Memᴰ
 use mathlib.Core.List.{List, [], ◌∷◌, ◌++◌, map}
-use mathlib.Core.Option.{some-injective}
 use Prim.Native.Nat.{ℕ, ◌+◌, ◌-◌, ◌*◌, ◌/◌, ◌%◌, ◌^◌, ◌≤◌, ◌<◌}
 use native.Mathlib.Omega.{arith}
-use lib.Bits.{bit_and}
-use lib.Dec.{eqb, ltb}
-use lib.ListN.{length, get_or, take, drop}
+use lib.Bits.{bit_and, bit_or}
+use lib.Dec.{eqb}
+use lib.ListN.{length, get_or}
 use lib.Pow.{pow-lt}
-use borrow.Author.Tests.{eqb-true, eq-eqb, ne_eqb, ltb-true, ltb-false, lt-ltb, le-ltb}
+use borrow.Author.Tests.{eqb-true, eq-eqb, ne_eqb}
 use Rattle.model.specs.Words.{bit, bits, word, union}
 use Rattle.model.specs.Constraints.{Problem, Constraint, always, variables}
 use Rattle.model.specs.Solutions.{WellFormed}
-use Rattle.model.specs.Layout.{part}
-use Rattle.model.specs.Reading.{decode}
 use Rattle.model.specs.Operations.{step_at, step_count}
 use Rattle.model.specs.StepIndex.{index_of}
 use Rattle.laws.specs.Inclusion.{In}
 use Rattle.laws.specs.Line.{waits}
-use Rattle.laws.proofs.WordLaws.{bool_ext, pow-bit, and_yes, zero_bit, zero_bits}
+use Rattle.laws.proofs.WordLaws.{bit-or, bool_ext, pow-bit, and_yes, zero_bits}
 use Rattle.laws.proofs.ShiftLaws.{without-bit}
 use Rattle.laws.proofs.StepNumberLaws.{step_in}
 use Rattle.laws.proofs.StepIndexLaws.{step_at-constraint, step_at_trimming, index-length}
 use Rattle.shortcuts.proofs.WaitLaws.{ranged-step}
 use Rattle.layout.specs.declared.Parts.{Parts}
 use Rattle.records.specs.declared.Record.{Record}
-use Rattle.records.specs.declared.Decoded.{Decoded}
-use Rattle.records.specs.declared.Decoded.TheVariants.{Constraint as One}
-use Rattle.records.specs.Records.{constraint_of, decoded_of}
-use Rattle.records.proofs.RecordLaws.{is-constraint}
+use Rattle.records.specs.Records.{constraint_of}
 use Rattle.format.specs.Accepting.{problem_in, Usable}
-use Rattle.format.proofs.ContentLaws.{usable-counts, usable-record}
+use Rattle.format.proofs.ContentLaws.{usable-counts}
 use Rattle.index.specs.Index.{position}
-use Rattle.index.specs.declared.Positions.{Positions}
+use Rattle.index.specs.declared.positions.Positions.{Positions}
 use Rattle.index.specs.Standing.{listed, Standing, Lent}
 use Rattle.index.proofs.StandingLaws.{position-below}
-use Rattle.queue.specs.Ring.{Without, Places, Joins}
+use Rattle.queue.specs.declared.Steps.{Steps}
+use Rattle.queue.specs.Ring.{Without, After, Places, Joins}
 use Rattle.queue.proofs.JoiningLaws.{joins_bit, joining-words}
 
 -- ---- how many steps a file has
@@ -55,25 +50,20 @@ module _ (file : List ℕ) (p : Parts) (u : Usable file p) (j : ℕ) where
   abbrev P : Problem
   P = problem_in file p
 
-  pub places_trimming : p.c ≤ j → Places P j (record { at = (j - p.c) ∷ 0 ∷ 0 ∷ []; count = 1 })
+  pub places_trimming : p.c ≤ j → {m : Positions} → m.at ≡ (j - p.c) ∷ 0 ∷ 0 ∷ [] → m.count ≡ 1 → Places P j m
   unfolding position variables
-  places_trimming h =
+  places_trimming h {m} at count =
       let n = (usable-counts file p u).constraints in
       let k : j ≡ length P.constraints + (j - p.c) = omega arith in
       let e : step_at P j ≡ always (j - p.c) = ap (step_at P) k ∙ step_at_trimming P (j - p.c) in
-      record { most = omega arith; are = ap (λ (c : Constraint). map (position P.strings) (variables c)) (sym e) }
+      let l : listed m ≡ (j - p.c) ∷ [] = rw (at, count) refl in
+      record { are = l ∙ ap (λ (c : Constraint). map (position P.strings) (variables c)) (sym e) }
 
-  abbrev records : List ℕ
-  records = take (p.automata_at - p.constraints_at) (drop p.constraints_at file)
-
-  pub places-constraint : j < p.c → (o : Decoded) → decoded_of o ≡ decode p.s p.t p.d (part (4 * j) 4 records) → (r : Record) → o ≡ One r
-      → (m : Positions) → Standing p.s r m → Places P j m
-  places-constraint h o e r q m s =
+  pub places-constraint : j < p.c → (r : Record) → constraint_of r ≡ get_or P.constraints j (always 0) → (m : Positions) → Standing p.s r m → Places P j m
+  places-constraint h r there m s =
       let n = usable-counts file p u in
-      let there : constraint_of r ≡ get_or P.constraints j (always 0) = some-injective _ _ (sym (is-constraint e q) ∙ usable-record file p u j h) in
       let is : constraint_of r ≡ step_at P j = there ∙ sym (step_at-constraint P j (omega (arith, n.constraints))) in
       record {
-        most = s.most;
         are = s.are ∙ ap (λ (k : ℕ). map (position k) (variables (constraint_of r))) (sym n.strings)
             ∙ ap (λ (c : Constraint). map (position P.strings) (variables c)) is;
       }
@@ -84,7 +74,6 @@ module _ (P : Problem) (wf : WellFormed P) (few : step_count P ≤ 80) (I : List
     (at : Places P j m) where
   pub places-lent : Lent m (length I)
   places-lent = record {
-    most = at.most;
     inside = λ i k.
         let v = Memᴰ.of_map (position P.strings) (variables (step_at P j)) (subst (In i) at.are k) in
         let r = ranged-step P wf (step_at P j) (step_in P j less) v.0 v.1 in
@@ -93,20 +82,20 @@ module _ (P : Problem) (wf : WellFormed P) (few : step_count P ≤ 80) (I : List
   }
 
   -- those of the steps that share a variable, without those that wait
-  pub joins_some : (wl wh low high : ℕ) → wl < 2 ^ 64 → wh < 2 ^ 64
+  pub joins_some : (w : Steps) (low high : ℕ) → w.low < 2 ^ 64 → w.high < 2 ^ 64
       → low ≡ union (map (λ i. word I (2 * i + 0)) (listed m)) → high ≡ union (map (λ i. word I (2 * i + 1)) (listed m)) → (struck : Bool) → struck ≡ true
-      → Joins P wl wh j struck (record { low = bit_and low (2 ^ 64 - 1 - wl); high = bit_and high (2 ^ 64 - 1 - wh) })
-  joins_some wl wh low high fl fh el eh struck so = record {
+      → Joins P w j struck (record { low = bit_and low (2 ^ 64 - 1 - w.low); high = bit_and high (2 ^ 64 - 1 - w.high) })
+  joins_some w low high fl fh el eh struck so = record {
     none = λ not_so. absurd (false≢true (sym not_so ∙ so));
     some = λ y js k. sym (joining-words P j js _ _ (omega arith)
-        (joins_bit P wf j less m at 0 (omega arith) low (el ∙ ap (λ (W : List ℕ). union (map (λ i. word W (2 * i + 0)) (listed m))) is) js wl _ fl refl
+        (joins_bit P wf j less m at 0 (omega arith) low (el ∙ ap (λ (W : List ℕ). union (map (λ i. word W (2 * i + 0)) (listed m))) is) js w.low _ fl refl
         (λ b l. let e : b ≡ 64 * 0 + b = omega arith in k.first b l ∙ ap (waits (j ∷ js)) e))
-        (joins_bit P wf j less m at 1 (omega arith) high (eh ∙ ap (λ (W : List ℕ). union (map (λ i. word W (2 * i + 1)) (listed m))) is) js wh _ fh refl
+        (joins_bit P wf j less m at 1 (omega arith) high (eh ∙ ap (λ (W : List ℕ). union (map (λ i. word W (2 * i + 1)) (listed m))) is) js w.high _ fh refl
         (λ b l. k.second b l)));
   }
 
-pub joins_none : (P : Problem) (low high j : ℕ) (struck : Bool) → struck ≡ false → Joins P low high j struck (record { low = 0; high = 0 })
-joins_none P low high j struck not_so = record {
+pub joins_none : (P : Problem) (w : Steps) (j : ℕ) (struck : Bool) → struck ≡ false → Joins P w j struck (record { low = 0; high = 0 })
+joins_none P w j struck not_so = record {
   none = λ y. ap (λ (l : List ℕ). l ++ map (λ b. 64 + b) (bits 0)) zero_bits ∙ ap (map (λ b. 64 + b)) zero_bits;
   some = λ so. absurd (false≢true (sym not_so ∙ so));
 }
@@ -134,25 +123,9 @@ without_other w half j n = record {
       sym (ap (λ (t : Bool). bit w b && not t) d ∙ and_yes (bit w b));
 }
 
--- ---- the steps below n, in one of the two words
-
-pub below_none : (n half : ℕ) → n ≤ 64 * half → (b : ℕ) → b < 64 → bit 0 b ≡ ltb (64 * half + b) n
-below_none n half h b l = zero_bit b ∙ sym (le-ltb (64 * half + b) n (omega arith))
-
-pub below-some : (n half m w : ℕ) → 64 * half < n → ((b : ℕ) → b < 64 → b < m → 64 * half + b < n) → ((b : ℕ) → b < 64 → m ≤ b → n ≤ 64 * half + b)
-    → ((b : ℕ) → bit w b ≡ true → b < m) × ((b : ℕ) → b < m → bit w b ≡ true) → (b : ℕ) → b < 64 → bit w b ≡ ltb (64 * half + b) n
-below-some n half m w h under over e b l = bool_ext (bit w b) (ltb (64 * half + b) n)
-    (λ q. lt-ltb (64 * half + b) n (under b l (e.0 b q)))
-    (λ q. go (ltb b m) refl (ltb-true (64 * half + b) n q))
-  where
-    go : (t : Bool) → ltb b m ≡ t → 64 * half + b < n → bit w b ≡ true
-    go true q k = e.1 b (ltb-true b m q)
-    go false q k = let z = over b l (ltb-false b m q) in absurd (omega arith)
-
-pub below-whole : (n half w : ℕ) → 64 < n - 64 * half → ((b : ℕ) → bit w b ≡ true → b < 64) × ((b : ℕ) → b < 64 → bit w b ≡ true)
-    → (b : ℕ) → b < 64 → bit w b ≡ ltb (64 * half + b) n
-below-whole n half w h e = below-some n half 64 w (omega arith) (λ b l k. omega arith) (λ b l k. absurd (omega arith)) e
-
-pub below_rest : (n half w : ℕ) → 64 * half < n → ((b : ℕ) → bit w b ≡ true → b < n - 64 * half) × ((b : ℕ) → b < n - 64 * half → bit w b ≡ true)
-    → (b : ℕ) → b < 64 → bit w b ≡ ltb (64 * half + b) n
-below_rest n half w h e = below-some n half (n - 64 * half) w h (λ b l k. omega arith) (λ b l k. omega arith) e
+-- both words without step j, and with others
+pub left-and-joined : {w more : Steps} {j v u : ℕ} → Without w.low 0 j v → Without w.high 1 j u → After w j more (record { low = bit_or v more.low; high = bit_or u more.high })
+left-and-joined {w} {more} {j} {v} {u} l h = record {
+  low = λ b s. bit-or v more.low b ∙ ap (λ (t : Bool). t || bit more.low b) (l.left b s);
+  high = λ b s. bit-or u more.high b ∙ ap (λ (t : Bool). t || bit more.high b) (h.left b s);
+}

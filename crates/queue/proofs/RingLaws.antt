@@ -15,6 +15,7 @@ use Rattle.laws.proofs.BitsLaws.{bits-lowest}
 use Rattle.laws.proofs.WordLaws.{zero_bits}
 use Rattle.laws.proofs.TableLaws.{bits_most}
 use Rattle.words.specs.Ends.{Lowest}
+use Rattle.queue.specs.declared.Queue.{Queue}
 use Rattle.queue.specs.Ring.{held, Filled, Appended}
 
 -- ---- places of the ring
@@ -83,65 +84,77 @@ filled-all R n l f = filled-held R n 0 n (omega arith) l f
 
 -- ---- the bits of a word, one after the other
 
--- of the bits of w these are done, and those of `rest` are left
-pub record Appending (R : List ℕ) (tail w base : ℕ) (S : List ℕ) (rest at : ℕ) : Type 0 where
-  pub size : length S ≡ 128
+-- of the bits of w these are written behind the last of q, which made r of it, and those of `rest` are left
+pub record Appending (q : Queue) (w base : ℕ) (r : Queue) (rest : ℕ) : Type 0 where
+  pub size : length r.ring ≡ 128
   pub done : List ℕ
   pub split : bits w ≡ done ++ bits rest
-  pub ends : at ≡ tail + length done
-  pub holds : (i n : ℕ) → i + n ≡ tail → n + length (bits w) ≤ 128 → held S i (n + length done) ≡ held R i n ++ map (λ b. base + b) done
+  pub ends : r.tail ≡ q.tail + length done
+  pub holds : (i n : ℕ) → i + n ≡ q.tail → n + length (bits w) ≤ 128 → held r.ring i (n + length done) ≡ held q.ring i n ++ map (λ b. base + b) done
+  pub front : r.head ≡ q.head
+  pub marks : r.waiting ≡ q.waiting
+  pub trimmed : r.trimmed ≡ q.trimmed
 
-module _ (R : List ℕ) (tail w base : ℕ) where
-  pub appending_first : length R ≡ 128 → Appending R tail w base R w tail
+module _ (q : Queue) (w base : ℕ) where
+  pub appending_first : length q.ring ≡ 128 → Appending q w base q w
   appending_first ln = record {
     size = ln;
     done = [];
     split = refl;
     ends = omega arith;
-    holds = λ i n e l. ap (held R i) (omega arith) ∙ sym (append-nil (held R i n));
+    holds = λ i n e l. ap (held q.ring i) (omega arith) ∙ sym (append-nil (held q.ring i n));
+    front = refl;
+    marks = refl;
+    trimmed = refl;
   }
 
-  module _ (S : List ℕ) (rest at : ℕ) (a : Appending R tail w base S rest at) where
+  module _ (r : Queue) (rest : ℕ) (a : Appending q w base r rest) where
     count : length (bits w) ≡ length a.done + length (bits rest)
     count = ap length a.split ∙ length-append a.done (bits rest)
 
     -- the ring's places do not run over
-    pub appending_at : at ≤ tail + 64
+    pub appending_at : r.tail ≤ q.tail + 64
     appending_at = let e = a.ends in omega (arith, count, bits_most w)
 
     module _ (b x : ℕ) (low : Lowest rest b) (e : x ≡ base + b) where
       taken : bits rest ≡ b ∷ bits (rest - 2 ^ b)
       taken = bits-lowest rest b low.small low.here low.below
 
-      holds-next : (i n : ℕ) → i + n ≡ tail → n + length (bits w) ≤ 128
-          → held (set S (at % 128) x) i (n + length (a.done ++ (b ∷ []))) ≡ held R i n ++ map (λ b. base + b) (a.done ++ (b ∷ []))
+      holds-next : (i n : ℕ) → i + n ≡ q.tail → n + length (bits w) ≤ 128
+          → held (set r.ring (r.tail % 128) x) i (n + length (a.done ++ (b ∷ []))) ≡ held q.ring i n ++ map (λ b. base + b) (a.done ++ (b ∷ []))
       holds-next i n s l =
           let d : ℕ = length a.done in
           let k : length (bits rest) ≡ suc (length (bits (rest - 2 ^ b))) = ap length taken in
-          let here : at ≡ i + (n + d) = omega (arith, a.ends) in
+          let here : r.tail ≡ i + (n + d) = omega (arith, a.ends) in
           let more : n + length (a.done ++ (b ∷ [])) ≡ suc (n + d) = omega (arith, length-append a.done (b ∷ [])) in
-          ap (held (set S (at % 128) x) i) more
-          ∙ ap (λ (m : ℕ). held (set S (m % 128) x) i (suc (n + d))) here
-          ∙ held_push S i (n + d) x a.size (omega (arith, count))
-          ∙ ap (λ (r : List ℕ). r ++ (x ∷ [])) (a.holds i n s l)
-          ∙ ap (λ (y : ℕ). (held R i n ++ map (λ b. base + b) a.done) ++ (y ∷ [])) e
-          ∙ append_assoc (held R i n) (map (λ b. base + b) a.done) ((base + b) ∷ [])
-          ∙ ap (λ (r : List ℕ). held R i n ++ r) (sym (map-append (λ b. base + b) a.done (b ∷ [])))
+          ap (held (set r.ring (r.tail % 128) x) i) more
+          ∙ ap (λ (m : ℕ). held (set r.ring (m % 128) x) i (suc (n + d))) here
+          ∙ held_push r.ring i (n + d) x a.size (omega (arith, count))
+          ∙ ap (λ (t : List ℕ). t ++ (x ∷ [])) (a.holds i n s l)
+          ∙ ap (λ (y : ℕ). (held q.ring i n ++ map (λ b. base + b) a.done) ++ (y ∷ [])) e
+          ∙ append_assoc (held q.ring i n) (map (λ b. base + b) a.done) ((base + b) ∷ [])
+          ∙ ap (λ (t : List ℕ). held q.ring i n ++ t) (sym (map-append (λ b. base + b) a.done (b ∷ [])))
 
-      pub appending_next : Appending R tail w base (set S (at % 128) x) (rest - 2 ^ b) (at + 1)
+      pub appending_next : Appending q w base (record { ring = set r.ring (r.tail % 128) x; head = r.head; tail = r.tail + 1; waiting = r.waiting; trimmed = r.trimmed }) (rest - 2 ^ b)
       appending_next = record {
-        size = length-set S (at % 128) x ∙ a.size;
+        size = length-set r.ring (r.tail % 128) x ∙ a.size;
         done = a.done ++ (b ∷ []);
-        split = a.split ∙ ap (λ (r : List ℕ). a.done ++ r) taken ∙ sym (append_assoc a.done (b ∷ []) (bits (rest - 2 ^ b)));
+        split = a.split ∙ ap (λ (t : List ℕ). a.done ++ t) taken ∙ sym (append_assoc a.done (b ∷ []) (bits (rest - 2 ^ b)));
         ends = omega (arith, a.ends, length-append a.done (b ∷ []));
         holds = holds-next;
+        front = a.front;
+        marks = a.marks;
+        trimmed = a.trimmed;
       }
 
-    pub appending_last : rest ≡ 0 → Appended R tail w base S at
+    pub appending_last : rest ≡ 0 → Appended q w base r
     appending_last z =
-        let all : bits w ≡ a.done = a.split ∙ ap (λ (r : ℕ). a.done ++ bits r) z ∙ ap (λ (r : List ℕ). a.done ++ r) zero_bits ∙ append-nil a.done in
+        let all : bits w ≡ a.done = a.split ∙ ap (λ (t : ℕ). a.done ++ bits t) z ∙ ap (λ (t : List ℕ). a.done ++ t) zero_bits ∙ append-nil a.done in
         record {
           size = a.size;
-          ends = a.ends ∙ ap (λ (r : List ℕ). tail + length r) (sym all);
-          holds = λ i n s l. ap (λ (r : List ℕ). held S i (n + length r)) all ∙ a.holds i n s l ∙ ap (λ (r : List ℕ). held R i n ++ map (λ b. base + b) r) (sym all);
+          ends = a.ends ∙ ap (λ (t : List ℕ). q.tail + length t) (sym all);
+          holds = λ i n s l. ap (λ (t : List ℕ). held r.ring i (n + length t)) all ∙ a.holds i n s l ∙ ap (λ (t : List ℕ). held q.ring i n ++ map (λ b. base + b) t) (sym all);
+          front = a.front;
+          marks = a.marks;
+          trimmed = a.trimmed;
         }

@@ -24,7 +24,7 @@ use Rattle.laws.proofs.SupportLaws.{narrowed-below}
 use Rattle.laws.proofs.CallLaws.{lendable-below, lendable-length}
 use Rattle.laws.proofs.QueueLaws.{upto-length, in_waits, waits_in, line-all, line-next, line-length, running_none, running-next, queueing-below, queueing-steps}
 use Rattle.striking.specs.Strikes.{Strikes, TrimmedIn}
-use Rattle.queue.specs.declared.Pair.{Pair}
+use Rattle.queue.specs.declared.Steps.{Steps}
 use Rattle.queue.specs.declared.Queue.{Queue}
 use Rattle.queue.specs.Ring.{held, Marks, numbers, Joins, Ring, Full, Advanced, Turned}
 use Rattle.queue.proofs.RingLaws.{filled-all}
@@ -32,19 +32,19 @@ use Rattle.queue.proofs.TurnLaws.{front, no_front, front-is, front-step}
 
 -- ---- all steps wait
 
-module _ (P : Problem) (n : ℕ) (e : step_count P ≡ n) (few : n ≤ 80) (R : List ℕ) (q : Queue) (f : Full n R q) where
+module _ (P : Problem) (n : ℕ) (e : step_count P ≡ n) (few : n ≤ 80) (q : Queue) (f : Full n q) where
   all_wait : (b : ℕ) → ltb b n ≡ waits (upto n) b
   all_wait b = bool_ext (ltb b n) (waits (upto n) b) (λ h. in_waits (upto n) b (in_upto n b (ltb-true b n h))) (λ h. lt-ltb b n (of-upto n (waits_in (upto n) b h)))
 
-  ring-all : Ring P R q (upto n)
+  ring-all : Ring P q (upto n)
   ring-all = record {
     size = f.filled.size;
     line = subst (λ (m : ℕ). Line P (upto m)) e (line-all P);
-    holds = ap (λ (h : ℕ). held R h (length (upto n))) f.head ∙ ap (held R 0) (upto-length n) ∙ filled-all R n (omega arith) f.filled;
+    holds = ap (λ (h : ℕ). held q.ring h (length (upto n))) f.head ∙ ap (held q.ring 0) (upto-length n) ∙ filled-all q.ring n (omega arith) f.filled;
     ends = omega (arith, f.head, f.tail, upto-length n);
     marks = record {
-      first = λ b l. let e : 64 * 0 + b ≡ b = omega arith in f.low b l ∙ all_wait (64 * 0 + b) ∙ ap (waits (upto n)) e;
-      second = λ b l. f.high b l ∙ all_wait (64 + b);
+      first = λ b l. let e : 64 * 0 + b ≡ b = omega arith in f.marks.low b l ∙ all_wait (64 * 0 + b) ∙ ap (waits (upto n)) e;
+      second = λ b l. f.marks.high b l ∙ all_wait (64 + b);
     };
   }
 
@@ -54,9 +54,9 @@ module _ (P : Problem) (n : ℕ) (e : step_count P ≡ n) (few : n ≤ 80) (R : 
 -- ---- what holds between turns
 
 -- some steps were run of those that the queue runs on T, and left U; those that wait are run on it
-pub record Runs (P : Problem) (T R : List ℕ) (q : Queue) (U : List ℕ) : Type 0 where
+pub record Runs (P : Problem) (T : List ℕ) (q : Queue) (U : List ℕ) : Type 0 where
   pub line : List ℕ
-  pub ring : Ring P R q line
+  pub ring : Ring P q line
   pub lent : lendable P U ≡ true
   pub trimmed : TrimmedIn P q.trimmed U
   pub steps : q.head + (running P line U).steps ≡ (queueing P T).steps
@@ -72,32 +72,32 @@ steps-most P T few small l =
     omega (arith, queueing-steps P T)
 
 module _ (P : Problem) (T : List ℕ) where
-  pub runs_first : (n : ℕ) → step_count P ≡ n → n ≤ 80 → (R : List ℕ) (q : Queue) → Full n R q → lendable P T ≡ true → Runs P T R q T
+  pub runs_first : (n : ℕ) → step_count P ≡ n → n ≤ 80 → (q : Queue) → Full n q → lendable P T ≡ true → Runs P T q T
   unfolding queueing
-  runs_first n e few R q f l = record {
+  runs_first n e few q f l = record {
     line = upto n;
-    ring = ring-all P n e few R q f;
+    ring = ring-all P n e few q f;
     lent = l;
-    trimmed = none-trimmed P n e few R q f T;
+    trimmed = none-trimmed P n e few q f T;
     steps = omega (arith, f.head, ap (λ (m : ℕ). (running P (upto m) T).steps) e);
     table = ap (λ (m : ℕ). (running P (upto m) T).table) (sym e);
   }
 
-  module _ (R : List ℕ) (q : Queue) (U : List ℕ) (r : Runs P T R q U) where
+  module _ (q : Queue) (U : List ℕ) (r : Runs P T q U) where
     -- a turn is one of the steps that are run
     pub runs_more : q.head < q.tail → q.head < (queueing P T).steps
     runs_more h =
         let f = front r.line r.ring h in
         go r.line r.ring r.steps
       where
-        go : (js : List ℕ) → Ring P R q js → q.head + (running P js U).steps ≡ (queueing P T).steps → q.head < (queueing P T).steps
+        go : (js : List ℕ) → Ring P q js → q.head + (running P js U).steps ≡ (queueing P T).steps → q.head < (queueing P T).steps
         go [] g s = absurd (omega (arith, g.ends))
         go (j ∷ js) g s = omega (arith, s, ap (λ (z : Ran). z.steps) (running-next P j js U))
 
-    pub runs_next : q.head < q.tail → (X S : List ℕ) (p : Queue) → Turned P U X R S q p → Runs P T S p X
-    runs_next h X S p t = go r.line r.ring r.steps r.table
+    pub runs_next : q.head < q.tail → (X : List ℕ) (p : Queue) → Turned P U X q p → Runs P T p X
+    runs_next h X p t = go r.line r.ring r.steps r.table
       where
-        go : (js : List ℕ) → Ring P R q js → q.head + (running P js U).steps ≡ (queueing P T).steps → (running P js U).table ≡ (queueing P T).table → Runs P T S p X
+        go : (js : List ℕ) → Ring P q js → q.head + (running P js U).steps ≡ (queueing P T).steps → (running P js U).table ≡ (queueing P T).table → Runs P T p X
         go [] g s w = absurd (omega (arith, g.ends))
         go (j ∷ js) g s w =
             let e : X ≡ narrowed P (step_at P j) U = t.table j js g in
@@ -123,33 +123,33 @@ module _ (P : Problem) (T : List ℕ) where
 -- ---- a turn
 
 -- what waits after step j, by what joins
-module _ (P : Problem) (j : ℕ) (js : List ℕ) (low high : ℕ) (w : Pair) (m : Marks low high (j ∷ js)) where
-  pub joined_line : (changed : Bool) (n : ℕ) → (changed ≡ false → n ≡ 0) → (changed ≡ true → 0 < n) → Joins P low high j changed w → js ++ numbers w ≡ waiting_after P n j js
+module _ (P : Problem) (j : ℕ) (js : List ℕ) (u w : Steps) (m : Marks u (j ∷ js)) where
+  pub joined_line : (changed : Bool) (n : ℕ) → (changed ≡ false → n ≡ 0) → (changed ≡ true → 0 < n) → Joins P u j changed w → js ++ numbers w ≡ waiting_after P n j js
   unfolding waiting_after
   joined_line false zero z s g = ap (λ (l : List ℕ). js ++ l) (g.none refl) ∙ append-nil js
   joined_line false (suc n) z s g = absurd (omega (arith, z refl))
   joined_line true zero z s g = absurd (omega (arith, s refl))
   joined_line true (suc n) z s g = ap (λ (l : List ℕ). js ++ l) (g.some refl js m)
 
-pub turned : (P : Problem) → step_count P ≤ 80 → {T U R S : List ℕ} {q r : Queue} {changed : Bool} {w : Pair} {t j : ℕ} → get_or R (q.head % 128) 0 ≡ j
-    → Strikes P (step_at P j) T U changed → Joins P q.low q.high j changed w → Advanced R S q j w t r → TrimmedIn P t U → Turned P T U R S q r
-turned P few {T} {U} {R} {S} {q} {r} {changed} {w} {t} {j} is s g a m = record {
+pub turned : (P : Problem) → step_count P ≤ 80 → {T U : List ℕ} {q r : Queue} {changed : Bool} {w : Steps} {t j : ℕ} → get_or q.ring (q.head % 128) 0 ≡ j
+    → Strikes P (step_at P j) T U changed → Joins P q.waiting j changed w → Advanced q j w t r → TrimmedIn P t U → Turned P T U q r
+turned P few {T} {U} {q} {r} {changed} {w} {t} {j} is s g a m = record {
   counts = a.counts;
   table = λ i js k. s.table ∙ ap (λ (d : ℕ). narrowed P (step_at P d) T) (sym is ∙ front-is k);
   line = λ i js k. at i js (sym is ∙ front-is k) k;
   trimmed = subst (λ (x : ℕ). TrimmedIn P x U) (sym a.same) m;
 }
   where
-    at : (i : ℕ) (js : List ℕ) → j ≡ i → Ring P R q (i ∷ js) → Ring P S r (waiting_after P (struck T U) i js)
+    at : (i : ℕ) (js : List ℕ) → j ≡ i → Ring P q (i ∷ js) → Ring P r (waiting_after P (struck T U) i js)
     at i js e k =
-        let here : Ring P R q (j ∷ js) = subst (λ (d : ℕ). Ring P R q (d ∷ js)) (sym e) k in
-        let l : js ++ numbers w ≡ waiting_after P (struck T U) j js = joined_line P j js q.low q.high w here.marks changed (struck T U) s.none s.some g in
+        let here : Ring P q (j ∷ js) = subst (λ (d : ℕ). Ring P q (d ∷ js)) (sym e) k in
+        let l : js ++ numbers w ≡ waiting_after P (struck T U) j js = joined_line P j js q.waiting w here.marks changed (struck T U) s.none s.some g in
         let next : Line P (js ++ numbers w) = subst (Line P) (sym l) (line-next P (struck T U) j js here.line) in
-        subst (λ (d : ℕ). Ring P S r (waiting_after P (struck T U) d js)) e (subst (Ring P S r) l (a.line P few js here next))
+        subst (λ (d : ℕ). Ring P r (waiting_after P (struck T U) d js)) e (subst (Ring P r) l (a.line P few js here next))
 
 -- what a turn asks of the front step, and of the ring
-module _ {P : Problem} {R : List ℕ} {q : Queue} (g : (js : List ℕ) × Ring P R q js) (h : q.head < q.tail) (few : step_count P ≤ 80) where
-  pub front_less : get_or R (q.head % 128) 0 < step_count P
+module _ {P : Problem} {q : Queue} (g : (js : List ℕ) × Ring P q js) (h : q.head < q.tail) (few : step_count P ≤ 80) where
+  pub front_less : get_or q.ring (q.head % 128) 0 < step_count P
   front_less = let f = front g.0 g.1 h in subst (λ (d : ℕ). d < step_count P) (sym (front-is f.2)) (front-step f.2)
 
   pub tail-near : q.tail ≤ q.head + 80

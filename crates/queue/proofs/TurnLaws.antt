@@ -6,7 +6,6 @@ use mathlib.Core.List.Memᴰ
 use mathlib.Core.List.{List, [], ◌∷◌, ◌++◌, map, append_assoc, head-eq_of_cons-eq, tail-eq_of_cons-eq}
 use Prim.Native.Nat.{ℕ, suc, ◌+◌, ◌*◌, ◌%◌, ◌≤◌, ◌<◌}
 use native.Mathlib.Omega.{arith}
-use lib.Bits.{bit_or}
 use lib.Dec.{eqb}
 use lib.ListN.{length, get_or, length-append, length-map}
 use borrow.Author.Tests.{eqb-true}
@@ -17,34 +16,34 @@ use Rattle.model.specs.Operations.{step_count}
 use Rattle.laws.specs.Inclusion.{In}
 use Rattle.laws.specs.Line.{waits, Line}
 use Rattle.laws.proofs.ListLaws.{or_true}
-use Rattle.laws.proofs.WordLaws.{bit-or, bool_ext, of-bits, in_bits}
+use Rattle.laws.proofs.WordLaws.{bool_ext, of-bits, in_bits}
 use Rattle.laws.proofs.QueueLaws.{in_waits, waits_in, waits-not, line-length}
-use Rattle.queue.specs.declared.Pair.{Pair}
+use Rattle.queue.specs.declared.Steps.{Steps}
 use Rattle.queue.specs.declared.Queue.{Queue}
-use Rattle.queue.specs.Ring.{held, Appended, Without, Marks, numbers, Ring, Advanced}
+use Rattle.queue.specs.Ring.{held, Appended, After, Marks, numbers, Ring, Advanced}
 
 -- ---- the front of a line
 
-module _ {P : Problem} {R : List ℕ} {q : Queue} where
+module _ {P : Problem} {q : Queue} where
   -- where something waits the line has a front
-  pub front : (js : List ℕ) → Ring P R q js → q.head < q.tail → (j : ℕ) × (rest : List ℕ) × Ring P R q (j ∷ rest)
+  pub front : (js : List ℕ) → Ring P q js → q.head < q.tail → (j : ℕ) × (rest : List ℕ) × Ring P q (j ∷ rest)
   front [] r h = absurd (omega (arith, r.ends))
   front (j ∷ rest) r h = (j, rest, r)
 
   -- and where nothing does it is empty
-  pub no_front : (js : List ℕ) → Ring P R q js → q.tail ≤ q.head → js ≡ []
+  pub no_front : (js : List ℕ) → Ring P q js → q.tail ≤ q.head → js ≡ []
   no_front [] r h = refl
   no_front (j ∷ rest) r h = absurd (omega (arith, r.ends))
 
-  module _ {j : ℕ} {js : List ℕ} (r : Ring P R q (j ∷ js)) where
-    pub front-is : get_or R (q.head % 128) 0 ≡ j
+  module _ {j : ℕ} {js : List ℕ} (r : Ring P q (j ∷ js)) where
+    pub front-is : get_or q.ring (q.head % 128) 0 ≡ j
     unfolding held
     front-is = head-eq_of_cons-eq r.holds
 
     pub front-step : j < step_count P
     front-step = r.line.steps j (Memᴰ.head refl)
 
-    rest-held : held R (suc q.head) (length js) ≡ js
+    rest-held : held q.ring (suc q.head) (length js) ≡ js
     unfolding held
     rest-held = tail-eq_of_cons-eq r.holds
 
@@ -59,7 +58,7 @@ waits-append (j ∷ q) r d = ap (λ (t : Bool). eqb d j || t) (waits-append q r 
     either true b c = refl
     either false b c = refl
 
-waits-low : (w : Pair) (b : ℕ) → b < 64 → waits (numbers w) b ≡ bit w.low b
+waits-low : (w : Steps) (b : ℕ) → b < 64 → waits (numbers w) b ≡ bit w.low b
 waits-low w b l = waits-append (bits w.low) (map (λ i. 64 + i) (bits w.high)) b
     ∙ bool_ext (waits (bits w.low) b || waits (map (λ i. 64 + i) (bits w.high)) b) (bit w.low b)
     (λ e. ⊎_elim (λ f. (of-bits w.low (waits_in (bits w.low) b f)).0)
@@ -67,7 +66,7 @@ waits-low w b l = waits-append (bits w.low) (map (λ i. 64 + i) (bits w.high)) b
     (or_true (waits (bits w.low) b) (waits (map (λ i. 64 + i) (bits w.high)) b) e))
     (λ e. ap (λ (t : Bool). t || waits (map (λ i. 64 + i) (bits w.high)) b) (in_waits (bits w.low) b (in_bits w.low b e l)))
 
-waits-high : (w : Pair) (b : ℕ) → b < 64 → waits (numbers w) (64 + b) ≡ bit w.high b
+waits-high : (w : Steps) (b : ℕ) → b < 64 → waits (numbers w) (64 + b) ≡ bit w.high b
 waits-high w b l = waits-append (bits w.low) (map (λ i. 64 + i) (bits w.high)) (64 + b)
     ∙ bool_ext (waits (bits w.low) (64 + b) || waits (map (λ i. 64 + i) (bits w.high)) (64 + b)) (bit w.high b)
     (λ e. ⊎_elim (λ f. absurd (omega (arith, (of-bits w.low (waits_in (bits w.low) (64 + b) f)).1)))
@@ -95,22 +94,19 @@ waits-rest j js d n = go (eqb d j) refl
     go true e = sym (waits-not js d (λ m. n d m (eqb-true d j e)))
     go false e = kept (waits js d)
 
-module _ {P : Problem} {R S₁ S : List ℕ} {q : Queue} {j : ℕ} {js : List ℕ} (few : step_count P ≤ 80) (r : Ring P R q (j ∷ js)) (w : Pair) (v u : ℕ) {middle tail : ℕ}
-    (a : Appended R q.tail w.low 0 S₁ middle) (c : Appended S₁ middle w.high 64 S tail)
-    (vl : Without q.low 0 j v) (vh : Without q.high 1 j u)
-    (line : Line P (js ++ numbers w)) where
-  marks : Marks (bit_or v w.low) (bit_or u w.high) (js ++ numbers w)
+module _ {P : Problem} {q q₁ q₂ : Queue} {j : ℕ} {js : List ℕ} (few : step_count P ≤ 80) (r : Ring P q (j ∷ js)) (w v : Steps)
+    (a : Appended q w.low 0 q₁) (c : Appended q₁ w.high 64 q₂) (after : After q.waiting j w v) (line : Line P (js ++ numbers w)) where
+  marks : Marks v (js ++ numbers w)
   marks = record {
     first = λ b l.
         let e : 64 * 0 + b ≡ b = omega arith in
-        bit-or v w.low b
-        ∙ ap (λ (t : Bool). t || bit w.low b) (vl.left b l ∙ ap (λ (i : ℕ). bit q.low b && not (eqb i j)) e
+        after.low b l
+        ∙ ap (λ (t : Bool). t || bit w.low b) (ap (λ (i : ℕ). bit q.waiting.low b && not (eqb i j)) e
         ∙ ap (λ (t : Bool). t && not (eqb b j)) (r.marks.first b l) ∙ waits-rest j js b r.line.distinct.0)
         ∙ ap (λ (t : Bool). waits js b || t) (sym (waits-low w b l)) ∙ sym (waits-append js (numbers w) b);
     second = λ b l.
-        bit-or u w.high b
-        ∙ ap (λ (t : Bool). t || bit w.high b) (vh.left b l
-        ∙ ap (λ (t : Bool). t && not (eqb (64 + b) j)) (r.marks.second b l) ∙ waits-rest j js (64 + b) r.line.distinct.0)
+        after.high b l
+        ∙ ap (λ (t : Bool). t || bit w.high b) (ap (λ (t : Bool). t && not (eqb (64 + b) j)) (r.marks.second b l) ∙ waits-rest j js (64 + b) r.line.distinct.0)
         ∙ ap (λ (t : Bool). waits js (64 + b) || t) (sym (waits-high w b l)) ∙ sym (waits-append js (numbers w) (64 + b));
   }
 
@@ -130,21 +126,21 @@ module _ {P : Problem} {R S₁ S : List ℕ} {q : Queue} {j : ℕ} {js : List �
   same_numbers [] = refl
   same_numbers (x ∷ xs) = let e : 0 + x ≡ x = omega arith in ap (λ (y : ℕ). y ∷ map (λ b. 0 + b) xs) e ∙ ap (λ (l : List ℕ). x ∷ l) (same_numbers xs)
 
-  holds : held S (q.head + 1) (length (js ++ numbers w)) ≡ js ++ numbers w
+  holds : held q₂.ring (q.head + 1) (length (js ++ numbers w)) ≡ js ++ numbers w
   holds =
       let h : ℕ = q.head + 1 in
       let one : h ≡ suc q.head = omega arith in
       let n : length (js ++ numbers w) ≡ length js + L + H = omega (arith, length-append js (numbers w), numbers-length) in
-      let low : held S₁ h (length js + L) ≡ held R h (length js) ++ map (λ b. 0 + b) (bits w.low) =
+      let low : held q₁.ring h (length js + L) ≡ held q.ring h (length js) ++ map (λ b. 0 + b) (bits w.low) =
       a.holds h (length js) (omega (arith, r.ends)) (omega (arith, room)) in
-      let high : held S h (length js + L + H) ≡ held S₁ h (length js + L) ++ map (λ b. 64 + b) (bits w.high) =
+      let high : held q₂.ring h (length js + L + H) ≡ held q₁.ring h (length js + L) ++ map (λ b. 64 + b) (bits w.high) =
       c.holds h (length js + L) (omega (arith, a.ends, r.ends)) (omega (arith, room)) in
-      let rest : held R h (length js) ≡ js = ap (λ (k : ℕ). held R k (length js)) one ∙ rest-held r in
-      ap (held S h) n ∙ high ∙ ap (λ (l : List ℕ). l ++ map (λ b. 64 + b) (bits w.high)) (low ∙ ap (λ (l : List ℕ). l ++ map (λ b. 0 + b) (bits w.low)) rest
+      let rest : held q.ring h (length js) ≡ js = ap (λ (k : ℕ). held q.ring k (length js)) one ∙ rest-held r in
+      ap (held q₂.ring h) n ∙ high ∙ ap (λ (l : List ℕ). l ++ map (λ b. 64 + b) (bits w.high)) (low ∙ ap (λ (l : List ℕ). l ++ map (λ b. 0 + b) (bits w.low)) rest
       ∙ ap (λ (l : List ℕ). js ++ l) (same_numbers (bits w.low)))
       ∙ append_assoc js (bits w.low) (map (λ b. 64 + b) (bits w.high))
 
-  pub ring-next : (t : ℕ) → Ring P S (record { head = q.head + 1; tail = tail; low = bit_or v w.low; high = bit_or u w.high; trimmed = t }) (js ++ numbers w)
+  pub ring-next : (t : ℕ) → Ring P (record { ring = q₂.ring; head = q.head + 1; tail = q₂.tail; waiting = v; trimmed = t }) (js ++ numbers w)
   ring-next t = record {
     size = c.size;
     line = line;
@@ -153,7 +149,15 @@ module _ {P : Problem} {R S₁ S : List ℕ} {q : Queue} {j : ℕ} {js : List �
     marks = marks;
   }
 
-pub advanced : {R S₁ S : List ℕ} {q : Queue} {j t v u middle tail : ℕ} {w : Pair} → Appended R q.tail w.low 0 S₁ middle → Appended S₁ middle w.high 64 S tail
-    → Without q.low 0 j v → Without q.high 1 j u
-    → Advanced R S q j w t (record { head = q.head + 1; tail = tail; low = bit_or v w.low; high = bit_or u w.high; trimmed = t })
-advanced {t = t} {v = v} {u = u} {w = w} a c vl vh = record { counts = refl; same = refl; line = λ P few js r l. ring-next few r w v u a c vl vh l t }
+-- where the front of the queue is that of q, and which steps wait is what it was in q
+pub advanced : {q q₁ q₂ : Queue} {j t : ℕ} {w v : Steps} → Appended q w.low 0 q₁ → Appended q₁ w.high 64 q₂ → After q₂.waiting j w v
+    → Advanced q j w t (record { ring = q₂.ring; head = q₂.head + 1; tail = q₂.tail; waiting = v; trimmed = t })
+advanced {q} {q₁} {q₂} {j} {t} {w} {v} a c after =
+    let h : q₂.head ≡ q.head = c.front ∙ a.front in
+    let k : q₂.waiting ≡ q.waiting = c.marks ∙ a.marks in
+    record {
+      counts = ap (λ (n : ℕ). n + 1) h;
+      same = refl;
+      line = λ P few js r l. subst (λ (n : ℕ). Ring P (record { ring = q₂.ring; head = n + 1; tail = q₂.tail; waiting = v; trimmed = t }) (js ++ numbers w)) (sym h)
+          (ring-next few r w v a c (subst (λ (u : Steps). After u j w v) k after) l t);
+    }

@@ -1,5 +1,4 @@
-// A reader over lent bytes that remembers its place, and the number that it read last. It is handed back at the next place, so a run of reads is a run of
-// readers. `next` and `left` take it apart and leave the work to `number_at` and `left_at`, and `record` hands it to `next`.
+// A reader over lent bytes that remembers its place: each number or record that it reads moves it on.
 //
 // Assumes nothing. `requires` asks that the bytes are there, and that the number fits.
 
@@ -13,56 +12,46 @@ ghost use Rattle.reader.specs.Places.{after};
 pub struct Reader<'a> {
     pub bytes: &'a [u8],
     pub at: usize,
-    pub number: u32,
 }
 
-// The number of n bytes, little-endian, from a place on.
+// The number of n bytes, little-endian, from a place on. By hand: from an array of four bytes, as `from_le_bytes` takes, n of
+// them would first be copied.
 pub fn number_at(bytes: &[u8], at: usize, n: usize) -> u32
     requires { (at + n ≤ length bytes.now) × (n ≤ 4) }
     ensures { result ≡ little (part at n bytes.now) }
 {
-    let end = at + n;
     let mut r = 0;
-    for i in 0..n {
-        r = bytes[end - 1 - i] as u32 + 256 * r;
+    for &byte in bytes[at..at + n].iter().rev() {
+        r = byte as u32 + 256 * r;
     }
     r
 }
 
-// How many bytes there are from a place on. Past the end there are none.
-pub fn left_at(bytes: &[u8], at: usize) -> usize
-    ensures { result ≡ length bytes.now - at }
-{
-    if bytes.len() <= at {
-        return 0;
+impl Reader<'_> {
+    // The next number, of n bytes.
+    pub fn next(&mut self, n: usize) -> u32
+        requires { (self.old.at + n ≤ length self.old.bytes.now) × (n ≤ 4) }
+        ensures number { result ≡ little (part self.old.at n self.old.bytes.now) }
+        ensures place { self.new ≡ after self.old n }
+    {
+        let number = number_at(self.bytes, self.at, n);
+        self.at += n;
+        number
     }
-    bytes.len() - at
-}
 
-// The next number of n bytes is read, and the place is behind it.
-pub fn next<'a>(r: Reader<'a>, n: usize) -> Reader<'a>
-    requires { (r.at + n ≤ length r.bytes.now) × (n ≤ 4) }
-    ensures { result ≡ after r.entry n }
-{
-    let number = number_at(r.bytes, r.at, n);
-    Reader {
-        bytes: r.bytes,
-        at: r.at + n,
-        number,
+    // The next record: the number of its four bytes.
+    pub fn record(&mut self) -> u32
+        requires { self.old.at + 4 ≤ length self.old.bytes.now }
+        ensures number { result ≡ little (part self.old.at 4 self.old.bytes.now) }
+        ensures place { self.new ≡ after self.old 4 }
+    {
+        self.next(4)
     }
-}
 
-// The next record is read: the number of its four bytes.
-pub fn record<'a>(r: Reader<'a>) -> Reader<'a>
-    requires { r.at + 4 ≤ length r.bytes.now }
-    ensures { result ≡ after r.entry 4 }
-{
-    next(r, 4)
-}
-
-// What is left: how many bytes there are from the place on.
-pub fn left<'a>(r: Reader<'a>) -> usize
-    ensures { result ≡ length r.entry.bytes.now - r.entry.at }
-{
-    left_at(r.bytes, r.at)
+    // How many bytes there are from the place on. Past the end there are none.
+    pub fn left(&self) -> usize
+        ensures { result ≡ length self.now.bytes.now - self.now.at }
+    {
+        self.bytes.len().saturating_sub(self.at)
+    }
 }

@@ -1,17 +1,12 @@
 -- What the code's records mean in the model's words, and which of the refusals 7 and 8 a list of records has. Assumes nothing.
-use Rattle.std.specs.Prelude.{Bool, true, false, cond, List, [], ◌∷◌, ℕ, ◌/◌, ◌%◌}
+use Rattle.std.specs.Prelude as std
+use Rattle.std.specs.Prelude.{Bool, true, false, cond, List, ℕ, Some, None}
 use Rattle.std.proofs.Math.Option.{Option, none, some}
 use Rattle.model.specs.Lists.{any, collect}
 use Rattle.model.specs.Constraints.{Constraint, eq, neq, rev, cat, sub, len, regular, variables}
 use Rattle.model.specs.Reading.{decode, repeats}
 use Rattle.records.specs.declared.Record.{Record}
 use Rattle.records.specs.declared.Record.TheVariants.{Eq, Neq, Rev, Cat, Sub, Len, Regular}
-use Rattle.records.specs.declared.Decoded.{Decoded}
-use Rattle.records.specs.declared.Decoded.TheVariants.{Constraint as One, NotOne}
-
--- the four bytes of a number, the lowest first
-unfoldable pub bytes_of : ℕ → List ℕ
-bytes_of n = n % 256 ∷ n / 256 % 256 ∷ n / 65536 % 256 ∷ n / 16777216 % 256 ∷ []
 
 -- the constraint that a record of the code is
 unfoldable pub constraint_of : Record → Constraint
@@ -24,14 +19,19 @@ constraint_of (Len x n) = len x n
 constraint_of (Regular x d) = regular x d
 
 -- the constraint that decoding took out, if there is one
-unfoldable pub decoded_of : Decoded → Option Constraint
-decoded_of (One r) = some (constraint_of r)
-decoded_of NotOne = none
+unfoldable pub decoded_of : std.Option Record → Option Constraint
+decoded_of (Some r) = some (constraint_of r)
+decoded_of None = none
 
--- whether there is one
-unfoldable pub is_some : {A : Type 0} → Option A → Bool
-is_some none = false
-is_some (some x) = true
+-- "7: a kind outside 1 to 7, an argument naming nothing, or an unused one not 0": 7 where some record is no constraint, else 0
+unfoldable pub standing : Option (List Constraint) → ℕ
+standing none = 7
+standing (some cs) = 0
+
+-- "naming one string twice": whether there is a constraint that does
+unfoldable pub repeating : Option Constraint → Bool
+repeating none = false
+repeating (some c) = repeats (variables c)
 
 -- "8: a constraint naming one string twice", else 0
 unfoldable pub repeated_in : List Constraint → ℕ

@@ -5,15 +5,23 @@
 
 #![tactic(auto)]
 
-ghost use Rattle.std.specs.Prelude.{◌≡◌, ◌&&◌, List, [], ◌∷◌, ◌+◌, ◌*◌, ◌/◌, ◌≤◌, ltb, length};
+mod names;
+
+ghost use Rattle.std.specs.Prelude.{◌≡◌, ◌&&◌, ◌++◌, List, map, ◌+◌, ◌*◌, ◌/◌, ◌<◌, ◌≤◌, ltb, length, take, IfSome};
+ghost use Rattle.std.specs.Option.{option_to_list};
 ghost use Rattle.std.proofs.Math.Option.{some};
-ghost use Rattle.model.specs.Lists.{given, collect};
+ghost use Rattle.model.specs.Lists.{any, collect};
+ghost use Rattle.model.specs.Domains.{str, num};
 ghost use Rattle.model.specs.Constraints.{Constraint, variables};
 ghost use Rattle.model.specs.Layout.{part};
 ghost use Rattle.model.specs.Reading.{decode, repeats, pieces};
-ghost use Rattle.records.specs.Records.{constraint_of, decoded_of, bytes_of, is_some, repeated_in, refusal_of};
+ghost use Rattle.refusals.specs.Numbers.{number_in};
+ghost use Rattle.records.specs.Records.{constraint_of, decoded_of, repeating, standing, refusal_of};
 
+use layout::Parts;
+pub use names::Names;
 use reader::Reader;
+use refusals::Refusal;
 
 // The kinds 1 to 7 with their arguments.
 #[derive(Clone, Copy)]
@@ -27,11 +35,33 @@ pub enum Record {
     Regular(u8, u8),
 }
 
-// What four bytes are: a constraint, or none.
-#[derive(Clone, Copy)]
-pub enum Decoded {
-    Constraint(Record),
-    NotOne,
+impl Record {
+    // What the constraint names: its strings, and its number, if it has one.
+    #[tactic(auto, unfolding(crate::specs::Records::constraint_of, model::specs::Constraints::variables))]
+    pub fn names(&self) -> Names
+        ensures { (variables (constraint_of self.now) ≡ map str (take result.count result.strings) ++ map num (option_to_list result.number)) × IfSome result.number (λ n. n < 256) }
+    {
+        match *self {
+            Record::Eq(x, y) | Record::Neq(x, y) | Record::Rev(x, y) => named([x, y, 0], 2, None),
+            Record::Cat(x, y, z) => named([x, y, z], 3, None),
+            Record::Sub(x, y, n) => named([x, y, 0], 2, Some(n)),
+            Record::Len(x, n) => named([x, 0, 0], 1, Some(n)),
+            Record::Regular(x, _) => named([x, 0, 0], 1, None),
+        }
+    }
+}
+
+// The first so many of these strings, and the number.
+fn named(strings: [u8; 3], count: usize, number: Option<u8>) -> Names
+    requires { count ≤ 3 }
+    ensures { (result.strings ≡ strings) × (result.count ≡ count) × (result.number ≡ number) × IfSome result.number (λ n. n < 256) }
+{
+    let [x, y, z] = strings;
+    Names {
+        strings: [x as usize, y as usize, z as usize],
+        count,
+        number: number.map(|n| n as usize),
+    }
 }
 
 // What an unused argument is below: it is 0.
@@ -41,120 +71,85 @@ const UNUSED: usize = 1;
 fn below(x: u8, a: usize, y: u8, b: usize, z: u8, c: usize) -> bool
     ensures { result ≡ (ltb x a && ltb y b && ltb z c) }
 {
-    if a <= x as usize {
-        return false;
-    }
-    if b <= y as usize {
-        return false;
-    }
-    (z as usize) < c
+    (x as usize) < a && (y as usize) < b && (z as usize) < c
 }
 
-// The record is a constraint where its arguments name something.
-fn only_if(named: bool, r: Record) -> Decoded
-    ensures { decoded_of result ≡ given named (constraint_of r) }
+// The constraint that four bytes are, if they are one, in a file with these counts.
+pub fn decode(bytes: [u8; 4], p: &Parts) -> Option<Record>
+    ensures { decoded_of result ≡ decode p.now.s p.now.t p.now.d bytes }
 {
-    if named {
-        return Decoded::Constraint(r);
-    }
-    Decoded::NotOne
-}
-
-// The constraint that four bytes are, if they are one.
-pub fn decode(kind: u8, x: u8, y: u8, z: u8, s: usize, t: usize, d: usize) -> Decoded
-    ensures { decoded_of result ≡ decode s t d (kind ∷ x ∷ y ∷ z ∷ []) }
-{
+    let [kind, x, y, z] = bytes;
+    let Parts { s, t, d, .. } = *p;
     match kind {
-        1 => only_if(below(x, s, y, s, z, UNUSED), Record::Eq(x, y)),
-        2 => only_if(below(x, s, y, s, z, UNUSED), Record::Neq(x, y)),
-        3 => only_if(below(x, s, y, s, z, UNUSED), Record::Rev(x, y)),
-        4 => only_if(below(x, s, y, s, z, s), Record::Cat(x, y, z)),
-        5 => only_if(below(x, s, y, s, z, t), Record::Sub(x, y, z)),
-        6 => only_if(below(x, s, y, t, z, UNUSED), Record::Len(x, y)),
-        7 => only_if(below(x, s, y, d, z, UNUSED), Record::Regular(x, y)),
-        _ => Decoded::NotOne,
+        1 => below(x, s, y, s, z, UNUSED).then_some(Record::Eq(x, y)),
+        2 => below(x, s, y, s, z, UNUSED).then_some(Record::Neq(x, y)),
+        3 => below(x, s, y, s, z, UNUSED).then_some(Record::Rev(x, y)),
+        4 => below(x, s, y, s, z, s).then_some(Record::Cat(x, y, z)),
+        5 => below(x, s, y, s, z, t).then_some(Record::Sub(x, y, z)),
+        6 => below(x, s, y, t, z, UNUSED).then_some(Record::Len(x, y)),
+        7 => below(x, s, y, d, z, UNUSED).then_some(Record::Regular(x, y)),
+        _ => None,
     }
 }
 
 // Record j of the constraint bytes.
-pub fn at(bytes: &[u8], j: usize, s: usize, t: usize, d: usize) -> Decoded
+pub fn at(bytes: &[u8], j: usize, p: &Parts) -> Option<Record>
     requires { 4 * j + 4 ≤ length bytes.now }
-    ensures { decoded_of result ≡ decode s t d (part (4 * j) 4 bytes.now) }
+    ensures { decoded_of result ≡ decode p.now.s p.now.t p.now.d (part (4 * j) 4 bytes.now) }
 {
     let i = 4 * j;
-    decode(bytes[i], bytes[i + 1], bytes[i + 2], bytes[i + 3], s, t, d)
+    decode(bytes[i..i + 4].try_into().unwrap(), p)
 }
 
 // Whether a constraint names one string twice.
 fn twice(r: Record) -> bool
     ensures { result ≡ repeats (variables (constraint_of r)) }
 {
-    match r {
-        Record::Eq(x, y) => x == y,
-        Record::Neq(x, y) => x == y,
-        Record::Rev(x, y) => x == y,
-        Record::Cat(x, y, z) => (x == y) | (x == z) | (y == z),
-        Record::Sub(x, y, _) => x == y,
-        Record::Len(_, _) => false,
-        Record::Regular(_, _) => false,
+    match *r.names().strings() {
+        [x, y] => x == y,
+        [x, y, z] => (x == y) | (x == z) | (y == z),
+        _ => false,
     }
 }
 
-// Refusal 8, where every record is a constraint.
-fn repeated(bytes: &[u8], c: usize, s: usize, t: usize, d: usize) -> u8
-    requires { (4 * c ≡ length bytes.now) × (c ≤ 64) }
-    ensures { (cs : List Constraint) → collect (decode s t d) (pieces c 4 bytes.now) ≡ some cs → result ≡ repeated_in cs }
+// Refusal 7: a reader takes one whole record after the other while four bytes are left, and the first that is no constraint stops the reading. The paper asks for
+// this reader.
+fn all_stand(bytes: &[u8], p: &Parts) -> Result<(), Refusal>
+    ensures { number_in result ≡ standing (collect (decode p.now.s p.now.t p.now.d) (pieces (length bytes.now / 4) 4 bytes.now)) }
 {
-    for j in 0..c {
-        let Decoded::Constraint(r) = at(bytes, j, s, t, d) else {
-            return 7;
+    let mut reader = Reader { bytes, at: 0 };
+    while reader.left() >= 4 {
+        let Some(_) = decode(reader.record().to_le_bytes(), p) else {
+            return Err(Refusal::Record);
         };
-        if twice(r) {
-            return 8;
-        }
     }
-    0
+    Ok(())
 }
 
-// Whether a record is a constraint, by the number of its four bytes.
-fn stands(number: u32, s: usize, t: usize, d: usize) -> bool
-    ensures { result ≡ is_some (decode s t d (bytes_of number)) }
+// Whether record j of the constraint bytes is a constraint that names one string twice.
+fn twice_at(bytes: &[u8], j: usize, p: &Parts) -> bool
+    requires { 4 * j + 4 ≤ length bytes.now }
+    ensures { result ≡ repeating (decode p.now.s p.now.t p.now.d (part (4 * j) 4 bytes.now)) }
 {
-    let kind = (number % 256) as u8;
-    let x = (number / 256 % 256) as u8;
-    let y = (number / 65536 % 256) as u8;
-    let z = (number / 16777216 % 256) as u8;
-    let Decoded::Constraint(_) = decode(kind, x, y, z, s, t, d) else {
-        return false;
-    };
-    true
+    at(bytes, j, p).is_some_and(twice)
 }
 
-// Whether every whole record is a constraint: a reader takes one after the other while four bytes are left, and the first that is none stops the reading.
-fn all_stand(bytes: &[u8], s: usize, t: usize, d: usize) -> bool
-    ensures { result ≡ is_some (collect (decode s t d) (pieces (length bytes.now / 4) 4 bytes.now)) }
+// Whether a constraint names one string twice, where every record is one.
+fn repeated(bytes: &[u8], p: &Parts) -> bool
+    requires { (4 * p.now.c ≡ length bytes.now) × (p.now.c ≤ 64) }
+    ensures { (cs : List Constraint) → collect (decode p.now.s p.now.t p.now.d) (pieces p.now.c 4 bytes.now) ≡ some cs → result ≡ any (λ c. repeats (variables c)) cs }
 {
-    let mut r = Reader {
-        bytes,
-        at: 0,
-        number: 0,
-    };
-    while reader::left(r) >= 4 {
-        r = reader::record(r);
-        if !stands(r.number, s, t, d) {
-            return false;
-        }
-    }
-    true
+    (0..p.c).any(|j| twice_at(bytes, j, p))
 }
 
-// 7, 8, or 0 for no refusal: "Refusal 8 is looked for only when every record has passed 7."
-pub fn check(bytes: &[u8], c: usize, s: usize, t: usize, d: usize) -> u8
-    requires { (4 * c ≡ length bytes.now) × (c ≤ 64) }
-    ensures { result ≡ refusal_of s t d (pieces c 4 bytes.now) }
+// Refusals 7 and 8, in their order: "Refusal 8 is looked for only when every record has passed 7."
+pub fn check(bytes: &[u8], p: &Parts) -> Result<(), Refusal>
+    requires { (4 * p.now.c ≡ length bytes.now) × (p.now.c ≤ 64) }
+    ensures { number_in result ≡ refusal_of p.now.s p.now.t p.now.d (pieces p.now.c 4 bytes.now) }
 {
-    if !all_stand(bytes, s, t, d) {
-        return 7;
+    all_stand(bytes, p)?;
+    if repeated(bytes, p) {
+        return Err(Refusal::Repeated);
     }
-    repeated(bytes, c, s, t, d)
+    Ok(())
 }

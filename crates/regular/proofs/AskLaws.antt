@@ -2,101 +2,87 @@
 use mathlib.Core.Path.{◌≡◌, refl, sym, subst}
 use mathlib.Core.Logic.{inl, inr, ⊎_elim}
 use mathlib.Core.Bool.{true}
-use mathlib.Core.List.{List, [], ◌∷◌}
+use mathlib.Core.List.{List}
 use Prim.Native.Nat.{ℕ, ◌<◌, ◌^◌}
-use native.Mathlib.Omega.{arith}
 use lib.Bits.{bit_and}
-use lib.ListN.{length, set, replicate, length-replicate, get_or-replicate}
-use Rattle.model.specs.Words.{word, none_from}
-use Rattle.automata.specs.Machine.{state_count, machine}
+use lib.ListN.{replicate, length-replicate, get_or-replicate}
+use Rattle.std.specs.Prelude.{Option}
+use Rattle.model.specs.Words.{none_from}
 use Rattle.automata.specs.StateSets.{Successors, Steps, Targets, Forgotten}
 use Rattle.automata.specs.Kinds.{Firsts, AllOf}
 use Rattle.automata.proofs.SetLaws.{no-bit, gathered_empty}
 use Rattle.automata.proofs.KindLaws.{firsts-low, firsts-successors, firsts-steps}
 use Rattle.automata.proofs.TargetLaws.{targets-none, targets_unasked}
-use Rattle.regular.specs.Asks.{Asking, Turned, Forwards, Backwards, Kept}
+use Rattle.regular.specs.declared.Asked.{Asked}
+use Rattle.regular.specs.declared.Moved.{Moved}
+use Rattle.regular.specs.declared.Place.{Place}
+use Rattle.regular.specs.Asks.{machine_of, states_of, kinds_of, Asking, Turned, Keeps, Forwards, Kept}
 
--- ---- what is remembered
-
--- seven words are written
-pub seven : (L : List ℕ) (a b c d e f g : ℕ) → length L ≡ 7
-    → set (set (set (set (set (set (set L 0 a) 1 b) 2 c) 3 d) 4 e) 5 f) 6 g ≡ (a ∷ b ∷ c ∷ d ∷ e ∷ f ∷ g ∷ [])
-seven [] a b c d e f g h = absurd (omega arith)
-seven (_ ∷ []) a b c d e f g h = absurd (omega arith)
-seven (_ ∷ _ ∷ []) a b c d e f g h = absurd (omega arith)
-seven (_ ∷ _ ∷ _ ∷ []) a b c d e f g h = absurd (omega arith)
-seven (_ ∷ _ ∷ _ ∷ _ ∷ []) a b c d e f g h = absurd (omega arith)
-seven (_ ∷ _ ∷ _ ∷ _ ∷ _ ∷ []) a b c d e f g h = absurd (omega arith)
-seven (_ ∷ _ ∷ _ ∷ _ ∷ _ ∷ _ ∷ []) a b c d e f g h = absurd (omega arith)
-seven (_ ∷ _ ∷ _ ∷ _ ∷ _ ∷ _ ∷ _ ∷ []) a b c d e f g h = refl
-seven (_ ∷ _ ∷ _ ∷ _ ∷ _ ∷ _ ∷ _ ∷ _ ∷ L) a b c d e f g h = absurd (omega arith)
-
-module _ (k : ℕ) (bs ks : List ℕ) (at : ℕ) (L tos : List ℕ) where
-  pub remembered : (allowed from into symbols states w firsts : ℕ) → L ≡ (allowed ∷ from ∷ into ∷ symbols ∷ states ∷ w ∷ firsts ∷ []) → states < 2 ^ 32
-      → Backwards k bs ks at allowed from into symbols states w firsts tos
-      → Kept k bs ks at L tos × Steps (machine k bs) (state_count bs) k allowed from into (word L 3) states
-  remembered allowed from into symbols states w firsts e h b =
-      subst (λ (M : List ℕ). Kept k bs ks at M tos × Steps (machine k bs) (state_count bs) k allowed from into (word M 3) states) (sym e)
-      (record { size = refl; small = h; place = b }, b.steps)
-
-  -- a place like the one that was asked last
-  pub alike : (allowed from into : ℕ) → Kept k bs ks at L tos → allowed ≡ word L 0 → from ≡ word L 1 → into ≡ word L 2
-      → Steps (machine k bs) (state_count bs) k allowed from into (word L 3) (word L 4)
-  alike allowed from into g a b c = rw (a, b, c) g.place.steps
+-- a place like the one that was asked last
+pub alike : (a : Asked) (p : Place) (m : Moved) (allowed from into : ℕ) → Kept a p m → allowed ≡ p.allowed → from ≡ p.from → into ≡ p.into
+    → Steps (machine_of a) (states_of a) a.automaton.k allowed from into p.symbols p.states
+alike a p m allowed from into g e f h = rw (e, f, h) g.steps
 
 -- ---- the word that is asked
 
 pub forgotten_start : Forgotten (replicate 32 0)
 forgotten_start = record { size = length-replicate {A = ℕ} 32 0; none = λ p h. get_or-replicate 32 p 0 0 h }
 
-pub turned_same : (ks : List ℕ) (at symbols word firsts : ℕ) (T : List ℕ) → symbols ≡ word → Firsts ks at word firsts → Turned ks at symbols firsts T firsts T
-turned_same ks at symbols word firsts T e f = record { firsts = subst (λ (w : ℕ). Firsts ks at w firsts) (sym e) f; kept = inl (refl, inl refl) }
+module _ (kinds : Option (List ℕ)) (symbols : ℕ) (old : Moved) where
+  pub turned_same : symbols ≡ old.word → Firsts kinds old.word old.firsts → Turned kinds symbols old old
+  turned_same e f = record { word = sym e; firsts = subst (λ (w : ℕ). Firsts kinds w old.firsts) (sym e) f; kept = inl (refl, inl refl) }
 
-pub turned-other : (ks : List ℕ) (at symbols old : ℕ) (T : List ℕ) (r : ℕ) (U : List ℕ) → Firsts ks at symbols r → Forgotten U → Turned ks at symbols old T r U
-turned-other ks at symbols old T r U f g = record { firsts = f; kept = inr g }
+  pub turned-other : (r : ℕ) (tos : List ℕ) → Firsts kinds symbols r → Forgotten tos → Turned kinds symbols old (record { word = symbols; firsts = r; tos = tos })
+  turned-other r tos f g = record { word = refl; firsts = f; kept = inr g }
 
--- nothing was asked before
-pub turned-first : (ks : List ℕ) (at symbols old : ℕ) (T : List ℕ) (r : ℕ) → Firsts ks at symbols r → old ≡ 0 → Turned ks at symbols old T r T
-turned-first ks at symbols old T r f z = record { firsts = f; kept = inl (refl, inr z) }
+  -- nothing was asked before
+  pub turned-first : (r : ℕ) → Firsts kinds symbols r → old.firsts ≡ 0 → Turned kinds symbols old (record { word = symbols; firsts = r; tos = old.tos })
+  turned-first r f z = record { word = refl; firsts = f; kept = inl (refl, inr z) }
 
-module _ (k : ℕ) (bs ks : List ℕ) (at : ℕ) (asking : Asking k bs ks at) where
+module _ (a : Asked) where
   -- nothing is asked yet
-  pub forwards_none : (tos : List ℕ) → Forgotten tos → Forwards k bs ks at 0 0 0 0 0 tos
-  forwards_none tos f = record {
-    steps = gathered_empty _ k (λ a t x. no-bit 0 a refl x.0);
-    first = record { within = λ a y. y; each = λ b y. absurd (no-bit 0 b refl y) };
-    targets = targets-none _ _ _ _ tos asking.whole.most-states f;
+  pub forwards_none : (m : Moved) → m.word ≡ 0 → m.firsts ≡ 0 → Forgotten m.tos → Forwards a (record { set = 0; symbols = 0; states = 0 }) m
+  forwards_none m w z f = record {
+    steps = gathered_empty _ a.automaton.k (λ b t x. no-bit 0 b refl x.0);
+    keeps = record {
+      first = record { within = λ b y. absurd (no-bit m.firsts b z y); each = λ b y. absurd (no-bit m.word b w y) };
+      targets = targets-none _ _ _ _ m.tos a.automaton.whole.most-states f;
+    };
   }
 
-  module _ (symbols old : ℕ) (T : List ℕ) (r : ℕ) (U : List ℕ) (turned : Turned ks at symbols old T r U) where
-    pub turned-targets : Targets (machine k bs) (state_count bs) k old T → Targets (machine k bs) (state_count bs) k r U
+  module _ (asking : Asking a) (symbols : ℕ) (old new : Moved) (turned : Turned (kinds_of a) symbols old new) where
+    pub turned-targets : Keeps a old → Targets (machine_of a) (states_of a) a.automaton.k new.firsts new.tos
     turned-targets g = ⊎_elim
         (λ e.
-        let h : Targets (machine k bs) (state_count bs) k old U = subst (Targets (machine k bs) (state_count bs) k old) (sym e.0) g in
+        let h : Targets (machine_of a) (states_of a) a.automaton.k old.firsts new.tos =
+        subst (Targets (machine_of a) (states_of a) a.automaton.k old.firsts) (sym e.0) g.targets in
         ⊎_elim
-        (λ q. subst (λ (w : ℕ). Targets (machine k bs) (state_count bs) k w U) (sym q) h)
-        (λ z. targets_unasked _ _ k r U (subst (λ (w : ℕ). Targets (machine k bs) (state_count bs) k w U) z h))
+        (λ q. subst (λ (w : ℕ). Targets (machine_of a) (states_of a) a.automaton.k w new.tos) (sym q) h)
+        (λ z. targets_unasked _ _ a.automaton.k new.firsts new.tos (subst (λ (w : ℕ). Targets (machine_of a) (states_of a) a.automaton.k w new.tos) z h))
         e.1)
-        (targets-none _ _ _ _ U asking.whole.most-states)
+        (targets-none _ _ _ _ new.tos a.automaton.whole.most-states)
         turned.kept
 
-    module _ (low : none_from k symbols ≡ true) (fits : symbols < 2 ^ 64) where
-      pub turned-low : none_from k r ≡ true
-      turned-low = firsts-low _ _ k ks at symbols r asking.most asking.kinds low fits turned.firsts
+    module _ (low : none_from a.automaton.k symbols ≡ true) (fits : symbols < 2 ^ 64) where
+      pub turned-low : none_from a.automaton.k new.firsts ≡ true
+      turned-low = firsts-low _ _ a.automaton.k (kinds_of a) symbols new.firsts a.automaton.few asking.kinds low fits turned.firsts
 
-      pub forwards_kinds : (set s : ℕ) (tos : List ℕ) → Successors (machine k bs) (state_count bs) k set r s × Targets (machine k bs) (state_count bs) k r tos
-          → Forwards k bs ks at set symbols s symbols r tos
+      -- what is kept of the states once they are asked
+      kept-now : (tos : List ℕ) → Targets (machine_of a) (states_of a) a.automaton.k new.firsts tos → Keeps a (record new { tos = tos })
+      kept-now tos g = record { first = subst (λ (w : ℕ). Firsts (kinds_of a) w new.firsts) (sym turned.word) turned.firsts; targets = g }
+
+      pub forwards_kinds : (set s : ℕ) (tos : List ℕ) → Successors (machine_of a) (states_of a) a.automaton.k set new.firsts s
+          × Targets (machine_of a) (states_of a) a.automaton.k new.firsts tos
+          → Forwards a (record { set = set; symbols = symbols; states = s }) (record new { tos = tos })
       forwards_kinds set s tos g = record {
-        steps = firsts-successors _ _ k ks at symbols r asking.most asking.kinds low fits turned.firsts set s g.0;
-        first = turned.firsts;
-        targets = g.1;
+        steps = firsts-successors _ _ a.automaton.k (kinds_of a) symbols new.firsts a.automaton.few asking.kinds low fits turned.firsts set s g.0;
+        keeps = kept-now tos g.1;
       }
 
-      pub backwards_kinds : (from into ss states all : ℕ) (tos : List ℕ) → Steps (machine k bs) (state_count bs) k r from into ss states × Targets
-          (machine k bs) (state_count bs) k r tos
-          → AllOf ks at ss all → Backwards k bs ks at symbols from into (bit_and symbols all) states symbols r tos
+      pub backwards_kinds : (from into ss states all : ℕ) (tos : List ℕ) → Steps (machine_of a) (states_of a) a.automaton.k new.firsts from into ss states
+          × Targets (machine_of a) (states_of a) a.automaton.k new.firsts tos → AllOf (kinds_of a) ss all
+          → Kept a (record { allowed = symbols; from = from; into = into; symbols = bit_and symbols all; states = states }) (record new { tos = tos })
       backwards_kinds from into ss states all tos g h = record {
-        steps = firsts-steps _ _ k ks at symbols r asking.most asking.kinds low fits turned.firsts from into ss states all g.0 h;
-        first = turned.firsts;
-        targets = g.1;
+        steps = firsts-steps _ _ a.automaton.k (kinds_of a) symbols new.firsts a.automaton.few asking.kinds low fits turned.firsts from into ss states all g.0 h;
+        keeps = kept-now tos g.1;
       }

@@ -37,12 +37,11 @@ module _ (allowed accepting : ℕ) (sets : List ℕ) (rest r l o s : ℕ) (g : W
   pub lengths-skip : bit_and accepting (word sets l) ≡ 0 → s ≡ r → Walked 64 allowed (Ending allowed accepting sets) (rest - o) s
   lengths-skip z q = rw q (walked_skip 64 allowed _ rest r l o g low e (λ t x. no-meeting-bit accepting (word sets l) x.2.0 z x.2.1 x.2.2))
 
-  pub lengths-add : accepting < 2 ^ 32 → (bit_and accepting (word sets l) ≡ 0 → ⊥) → s ≡ bit_or o r → Walked 64 allowed (Ending allowed accepting sets)
-      (rest - o) s
-  lengths-add h ne u =
+  pub lengths-add : (u : ℕ) → accepting < 2 ^ 32 → (bit_and accepting (word sets l) ≡ 0 → ⊥) → u ≡ 2 ^ l → s ≡ bit_or r u
+      → Walked 64 allowed (Ending allowed accepting sets) (rest - o) s
+  lengths-add u h ne v w =
       let m = meeting-bit accepting (word sets l) h ne in
-      let v : s ≡ bit_or (2 ^ l) r = u ∙ ap (λ (i : ℕ). bit_or i r) e in
-      rw v (walked_one 64 allowed _ rest r l o g low e l (refl, (g.known l low.here).1, (m.0, m.1, m.2)) (λ t x. x.0))
+      rw (w, v) (walked_one 64 allowed _ rest r l o g low e l (refl, (g.known l low.here).1, (m.0, m.1, m.2)) (λ t x. x.0))
 
 -- ---- the loop over symbols
 
@@ -55,11 +54,10 @@ module _ (A : Automaton) (q k allowed before after rest r a o s : ℕ) (b : Bool
     pub symbols-skip : b ≡ false → s ≡ r → Walked k allowed (Leading A q allowed before after) (rest - o) s
     symbols-skip h u = rw u (walked_skip k allowed _ rest r a o g low e (λ t y. let z = y.2 in false≢true (sym h ∙ x.complete z.0 z.1 (z.2, z.3))))
 
-    pub symbols-add : b ≡ true → s ≡ bit_or o r → Walked k allowed (Leading A q allowed before after) (rest - o) s
-    symbols-add h u =
+    pub symbols-add : (u : ℕ) → b ≡ true → u ≡ 2 ^ a → s ≡ bit_or r u → Walked k allowed (Leading A q allowed before after) (rest - o) s
+    symbols-add u h v w =
         let y = x.sound h in
-        let v : s ≡ bit_or (2 ^ a) r = u ∙ ap (λ (i : ℕ). bit_or i r) e in
-        rw v (walked_one k allowed _ rest r a o g low e a (refl, (g.known a low.here).1, (y.0, y.1, y.2.0, y.2.1)) (λ t z. z.0))
+        rw (w, v) (walked_one k allowed _ rest r a o g low e a (refl, (g.known a low.here).1, (y.0, y.1, y.2.0, y.2.1)) (λ t z. z.0))
 
 -- ---- strings and ways
 

@@ -23,7 +23,7 @@ use Rattle.automata.specs.Machine.{state_count, machine, Whole}
 use Rattle.automata.specs.StateSets.{LowBits, Successors, Symbols, Entering, Steps}
 use Rattle.automata.proofs.MachineLaws.{machine-accepting}
 use Rattle.automata.proofs.SetLaws.{no-bit, gathered_empty}
-use Rattle.inplace.specs.declared.Change.{Change}
+use Rattle.std.specs.Prelude.{Some, None}
 use Rattle.inplace.specs.InTable.{Tidy, Ready, Shortened, Changed, Flag, zeros}
 use Rattle.inplace.specs.InPlace.{InPlace}
 use Rattle.laws.proofs.ListLaws.{or_false, or_true, not_false, not_true}
@@ -122,13 +122,13 @@ module _ (k : ℕ) (bs T : List ℕ) (x : ℕ) (whole : Whole k bs) (fits : 64 *
       longest = h;
     }
 
-    pub regular-none : ends ≡ 0 → (c : Change) → c.left ≡ false → InPlace (A ∷ []) (regular 0 0) (x ∷ []) [] T T c
-    regular-none z c l =
+    pub regular-none : ends ≡ 0 → InPlace (A ∷ []) (regular 0 0) (x ∷ []) [] T T None
+    regular-none z =
         let none : (w : ℕ) → w ≡ 0 → Accepted A r w = λ w e. subst (Accepted A r) (z ∙ sym e) all-accepted in
         one_none (A ∷ []) (regular 0 0) x T T refl (λ n o. refl)
         (regular-narrowed A r zeros (row-length T x fits) (row_words T bd x) (length-replicate {A = ℕ} 64 0) (none 0 refl)
         (λ j h. nothing_through A r ends all-accepted j (word zeros (suc j)) (get_or-replicate 64 (suc j) 0 0 (omega arith))
-        (λ l b. absurd (no-bit ends l z b)))) c l
+        (λ l b. absurd (no-bit ends l z b))))
 
 -- ---- backwards
 
@@ -305,7 +305,7 @@ module _ (k : ℕ) (bs T : List ℕ) (x : ℕ) (sets : List ℕ) (ends top : ℕ
           (symbol-stays A₁ r₁ v lr (row_words T bd x) t.cut.size lengths places i (get_or w.0 i 0) (omega arith) w.0 w.1
           (uses-symbol w.0 i (get_or w.0 i 0) (omega arith) refl))
 
-      pub regular-left : (cx : Bool) → cx ≡ (c || p) → InPlace (A₁ ∷ []) (regular 0 0) (x ∷ []) [] T W (record { left = true; x = cx; y = false; z = false })
+      pub regular-left : (cx : Bool) → cx ≡ (c || p) → InPlace (A₁ ∷ []) (regular 0 0) (x ∷ []) [] T W (Some (record { x = cx; y = false; z = false }))
       regular-left cx e = one_left (A₁ ∷ []) (regular 0 0) x T W (t.only.size ∙ b.size)
           (λ n f. let h = go.longest.small in only_out U x W t.only n f ∙ b.others n (λ j l m g. f (suc j) (omega arith) (omega arith)))
           (regular-narrowed A₁ r₁ v lr (row_words T bd x) t.cut.size lengths places)

@@ -1,35 +1,45 @@
 -- How the automaton is asked at the places of a row: by one symbol of each kind, and by what is kept of the word asked last. Assumes nothing.
-use Rattle.std.specs.Prelude.{◌≡◌, ◌⊎◌, List, ℕ, ◌≤◌, ◌<◌, ◌^◌, length}
-use Rattle.model.specs.Words.{word}
-use Rattle.automata.specs.Machine.{state_count, machine, Whole}
+use Rattle.std.specs.Prelude.{◌≡◌, ◌⊎◌, List, ℕ, Option, option_copied}
+use Rattle.model.specs.Constraints.{Automaton}
+use Rattle.automata.specs.Machine.{state_count, machine}
 use Rattle.automata.specs.StateSets.{Successors, Steps, Targets, Forgotten}
 use Rattle.automata.specs.Kinds.{Kinds, Firsts}
+use Rattle.regular.specs.declared.Asked.{Asked}
+use Rattle.regular.specs.declared.Moved.{Moved}
+use Rattle.regular.specs.declared.Reached.{Reached}
+use Rattle.regular.specs.declared.Place.{Place}
 
--- an automaton of at most 64 symbols in its bytes, and the kinds of its symbols from `at` on
-pub record Asking (k : ℕ) (bs ks : List ℕ) (at : ℕ) : Type 0 where
-  pub most : k ≤ 64
-  pub whole : Whole k bs
-  pub kinds : Kinds (machine k bs) (state_count bs) k ks at
+-- the automaton that is asked, how many states it has, and the kinds of its symbols
+abbrev pub machine_of : Asked → Automaton
+machine_of a = machine a.automaton.k a.automaton.bytes.now
 
--- r has one symbol of each kind of the word; either it is the word asked last, or none was asked, and what was kept stays, or nothing is kept
-pub record Turned (ks : List ℕ) (at symbols old : ℕ) (T : List ℕ) (r : ℕ) (U : List ℕ) : Type 0 where
-  pub firsts : Firsts ks at symbols r
-  pub kept : ((U ≡ T) × ((r ≡ old) ⊎ (old ≡ 0))) ⊎ Forgotten U
+abbrev pub states_of : Asked → ℕ
+states_of a = state_count a.automaton.bytes.now
 
--- the states that the set moves to; and what is kept of the states, by one symbol of each kind of a word
-pub record Forwards (k : ℕ) (bs ks : List ℕ) (at set symbols states word firsts : ℕ) (tos : List ℕ) : Type 0 where
-  pub steps : Successors (machine k bs) (state_count bs) k set symbols states
-  pub first : Firsts ks at word firsts
-  pub targets : Targets (machine k bs) (state_count bs) k firsts tos
+abbrev pub kinds_of : Asked → Option (List ℕ)
+kinds_of a = option_copied a.kinds
 
--- what a place keeps; and what is kept of the states, in the same way
-pub record Backwards (k : ℕ) (bs ks : List ℕ) (at allowed from into symbols states word firsts : ℕ) (tos : List ℕ) : Type 0 where
-  pub steps : Steps (machine k bs) (state_count bs) k allowed from into symbols states
-  pub first : Firsts ks at word firsts
-  pub targets : Targets (machine k bs) (state_count bs) k firsts tos
+-- the kinds are those of the automaton's symbols
+pub record Asking (a : Asked) : Type 0 where
+  pub kinds : Kinds (machine_of a) (states_of a) a.automaton.k (kinds_of a)
 
--- the same of the place that was asked last, which the seven words L remember
-pub record Kept (k : ℕ) (bs ks : List ℕ) (at : ℕ) (L tos : List ℕ) : Type 0 where
-  pub size : length L ≡ 7
-  pub small : word L 4 < 2 ^ 32
-  pub place : Backwards k bs ks at (word L 0) (word L 1) (word L 2) (word L 3) (word L 4) (word L 5) (word L 6) tos
+-- there is one symbol of each kind of the word; either it is the word asked last, or none was asked, and what was kept stays, or nothing is kept
+pub record Turned (kinds : Option (List ℕ)) (symbols : ℕ) (old new : Moved) : Type 0 where
+  pub word : new.word ≡ symbols
+  pub firsts : Firsts kinds symbols new.firsts
+  pub kept : ((new.tos ≡ old.tos) × ((new.firsts ≡ old.firsts) ⊎ (old.firsts ≡ 0))) ⊎ Forgotten new.tos
+
+-- what is kept of the states, by one symbol of each kind of a word
+pub record Keeps (a : Asked) (m : Moved) : Type 0 where
+  pub first : Firsts (kinds_of a) m.word m.firsts
+  pub targets : Targets (machine_of a) (states_of a) a.automaton.k m.firsts m.tos
+
+-- the states that the set moves to; and what is kept of the states
+pub record Forwards (a : Asked) (r : Reached) (m : Moved) : Type 0 where
+  pub steps : Successors (machine_of a) (states_of a) a.automaton.k r.set r.symbols r.states
+  pub keeps : Keeps a m
+
+-- what the place that was asked last keeps; and what is kept of the states, in the same way
+pub record Kept (a : Asked) (p : Place) (m : Moved) : Type 0 where
+  pub steps : Steps (machine_of a) (states_of a) a.automaton.k p.allowed p.from p.into p.symbols p.states
+  pub keeps : Keeps a m

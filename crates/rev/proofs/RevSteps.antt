@@ -1,4 +1,5 @@
 -- Rev in place: where nothing is left, and what is left where there are several lengths. Assumes nothing.
+use Rattle.std.specs.Prelude.{Some, None}
 use mathlib.Core.Path.{◌≡◌, refl, sym, ap, ap₂, subst, ◌∙◌}
 use mathlib.Core.Logic.{◌≢◌}
 use mathlib.Core.Bool.{Bool, true, false, false≢true}
@@ -22,7 +23,6 @@ use Rattle.laws.proofs.Supports.{none-support}
 use Rattle.inplace.specs.InTable.{Tidy, Out, Flag, zeros}
 use Rattle.inplace.specs.InPlace.{InPlace}
 use Rattle.inplace.specs.Written.{Replacing, Replaced}
-use Rattle.inplace.specs.declared.Change.{Change}
 use Rattle.inplace.proofs.Tables.{row_first, only-other, only_out}
 use Rattle.inplace.proofs.Shapes.{two-left, two_none}
 use Rattle.inplace.proofs.Supported.{support-within, support-choice, support-tidy}
@@ -57,12 +57,12 @@ module _ (T : List ℕ) (x y : ℕ) (fx : 64 * x + 64 ≤ length T) (fy : 64 * y
 
   pub rev-nothing : ((u : List ℕ) → Mirrored (row T x) (row T y) 0 u → ⊥) → (U : List ℕ) → length U ≡ length T
       → ((k : ℕ) → Out x k → Out y k → word U k ≡ word T k)
-      → (r : Change) → r.left ≡ false → InPlace [] (rev 0 1) (x ∷ y ∷ []) [] T U r
+      → InPlace [] (rev 0 1) (x ∷ y ∷ []) [] T U None
   rev-nothing never U size others = two_none (rev 0 1) x y T U size others (rev-rows zeros zeros
       (none-support (Mirrored (row T x) (row T y) 0) text_bit 64 never)
       (none-support (Mirrored (row T y) (row T x) 0) text_bit 64 (λ u m. never (reverse u) (mirror (row T y) (row T x) u m))))
 
-  pub rev-empty : bit_and (word T (64 * x)) (word T (64 * y)) ≡ 0 → (r : Change) → r.left ≡ false → InPlace [] (rev 0 1) (x ∷ y ∷ []) [] T T r
+  pub rev-empty : bit_and (word T (64 * x)) (word T (64 * y)) ≡ 0 → InPlace [] (rev 0 1) (x ∷ y ∷ []) [] T T None
   rev-empty e = rev-nothing (λ u m.
       let n : ℕ = length u in
       false≢true (sym (zero_bit n) ∙ ap (λ (w : ℕ). bit w n) (sym e) ∙ and-bit (word T (64 * x)) (word T (64 * y)) n
@@ -80,7 +80,7 @@ module _ (T : List ℕ) (x y ls : ℕ) (pair : Pair T x y ls) (bd : Words T) whe
   -- ---- several lengths
 
   module _ (rx : List ℕ) (sx : Supports (Mirrored (row T x) (row T y) 0) text_bit 64 rx) where
-    pub rev-none : word rx 0 ≡ 0 → (r : Change) → r.left ≡ false → InPlace [] (rev 0 1) (x ∷ y ∷ []) [] T T r
+    pub rev-none : word rx 0 ≡ 0 → InPlace [] (rev 0 1) (x ∷ y ∷ []) [] T T None
     rev-none z = rev-nothing T x y fx fy bd (no-choice (Mirrored (row T x) (row T y) 0) (λ u. u) rx sx z) T refl (λ k f g. refl)
 
     module _ (some : word rx 0 ≢ 0) (ry : List ℕ) (sy : Supports (Mirrored (row T y) (row T x) 0) text_bit 64 ry) where
@@ -112,7 +112,7 @@ module _ (T : List ℕ) (x y ls : ℕ) (pair : Pair T x y ls) (bd : Words T) whe
             ∙ support-within (Mirrored (row T y) (row T x) 0) (λ u. u) ry sy (row T y) (row_words T bd y) (λ u m. m.own) b e)
 
         pub any_left : (U : List ℕ) (cy : Bool) → Replaced T₁ y (row ry 0) U cy
-            → InPlace [] (rev 0 1) (x ∷ y ∷ []) [] T U (record { left = true; x = cx; y = cy; z = false })
+            → InPlace [] (rev 0 1) (x ∷ y ∷ []) [] T U (Some (record { x = cx; y = cy; z = false }))
         any_left U cy q =
             let s = p.only.size in
             let f = pair.fits-x in

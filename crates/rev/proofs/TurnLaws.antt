@@ -1,14 +1,17 @@
 -- The loops of Rev: places that face each other, as they are read, met in place, and added to a row. Assumes nothing.
+use Rattle.std.specs.Prelude.{None, MatchBool}
+use Rattle.std.specs.List.{range_with_len, AllWithin, HoldsAt}
+use Rattle.std.proofs.lemmas.List.FromFn.{length-range_with_len, get_or-range_with_len}
 use mathlib.Core.Path.{◌≡◌, refl, sym, ap, ap₂, subst, ◌∙◌}
-use mathlib.Core.Logic.{◌⊎◌, inl, ⊎_elim}
-use mathlib.Core.Bool.{Bool, true, false, false≢true}
+use mathlib.Core.Logic.{◌≢◌, ◌⊎◌, inl, ⊎_elim}
+use mathlib.Core.Bool.{Bool, true, false}
 use mathlib.Core.List.{List}
-use Prim.Native.Nat.{ℕ, zero, suc, ◌+◌, ◌-◌, ◌*◌, ◌^◌, ◌≤◌, ◌<◌}
+use Prim.Native.Nat.{ℕ, zero, suc, ◌+◌, ◌-◌, ◌*◌, ◌^◌, ◌<◌}
 use native.Mathlib.Nat.{le_of_suc-le-suc, eq-or-lt_of_le}
 use native.Mathlib.Omega.{arith}
-use lib.Bits.{bit_and, bit_or}
+use lib.Bits.{bit_and, bit_or, or_zero_r}
 use lib.Dec.{ltb}
-use lib.ListN.{length, replicate, set, length-set}
+use lib.ListN.{length, get_or, replicate, set, length-set}
 use lib.Seq.{ext_get_or, get_or-set_same, get_or-set_other}
 use borrow.Author.Tests.{ltb-true, ltb-false}
 use Rattle.model.specs.Words.{bit, word, Words}
@@ -17,12 +20,12 @@ use Rattle.model.specs.Solutions.{text_bit}
 use Rattle.laws.specs.Inclusion.{Within}
 use Rattle.laws.specs.Supported.{Supports}
 use Rattle.laws.proofs.DomainLaws.{row_words}
-use Rattle.laws.proofs.WordLaws.{zero_bit, pow_self, within_antisym, or-bit-left, of-or-bit, bit_le, sub_within}
+use Rattle.laws.proofs.WordLaws.{sub_within}
 use Rattle.laws.proofs.Supports.{or_words, or_words-length, or_words-word, either-support, moved-support}
 use Rattle.inplace.specs.InTable.{Apart}
 use Rattle.inplace.specs.Written.{Written}
-use Rattle.inplace.proofs.Tables.{row_first, row-place, bit-some}
-use Rattle.rev.specs.Turned.{facing, Turns, Added, Turned, Mirrored, Common, Widened}
+use Rattle.inplace.proofs.Tables.{row_first, row-place}
+use Rattle.rev.specs.Turned.{facing, Turning, Turn, Turns, Added, Turned, Mirrored, Common, Widened}
 use Rattle.rev.proofs.RevLaws.{faced, faced-first, faced-place, faced-past, faced-filled, faced-empty, mirrored_none, mirrored_next}
 
 -- ---- as the code reads them
@@ -38,6 +41,33 @@ pub turn-read : (T : List ℕ) (a b l m : ℕ) (U : List ℕ) (c : Bool) → Wri
     → bit_and (word U (a + m + 1)) (word U (b + l - m)) ≡ facing T a b l m
 turn-read T a b l m U c t h away = facing-read U a b l m h ∙ ap₂ bit_and (t.kept (suc (a + m)) (λ i k e. omega arith))
     (t.kept (suc (b + (l - suc m))) (λ i k e. away.apart i (l - suc m) (omega arith) (omega arith) (omega arith)))
+
+-- places met before one that allows nothing
+pub turn_none : (T : List ℕ) (a b l : ℕ) (U : List ℕ) (m : ℕ) (c : Bool) → m < l → facing T a b l m ≡ 0 → Turning T a b l U m c → Turn T a b l U None
+turn_none T a b l U m c h z t = record { all = λ d q. absurd (cc); stop = λ q. (m, h, z, (c, t)) }
+
+range-at : (l i : ℕ) → i < l → get_or (range_with_len 0 l) i 0 ≡ i
+range-at l i h = let e : 0 + i ≡ i = omega arith in get_or-range_with_len 0 l i 0 h ∙ e
+
+-- whether all of them allow something, by what `all` ensures
+pub turns_by : (T : List ℕ) (a b l : ℕ) (r : Bool)
+    → MatchBool r (AllWithin (λ i. bit_and (word T (a + i + 1)) (word T (b + l - i)) ≢ 0) (range_with_len 0 l) 0 (length (range_with_len 0 l)))
+    ((k : ℕ) × (k < length (range_with_len 0 l)) × HoldsAt (λ i. bit_and (word T (a + i + 1)) (word T (b + l - i)) ≡ 0) (range_with_len 0 l) k)
+    → Turns T a b l r
+turns_by T a b l true f = record {
+  filled = λ q i h.
+      let n : bit_and (word T (a + i + 1)) (word T (b + l - i)) ≢ 0 = subst (λ (j : ℕ). bit_and (word T (a + j + 1)) (word T (b + l - j)) ≢ 0) (range-at l i h)
+      (f i 0 (omega arith) (omega (arith, length-range_with_len 0 l))) in
+      let d = facing-read T a b l i h in
+      omega arith;
+  empty = λ q. absurd (cc);
+}
+turns_by T a b l false f = record {
+  filled = λ q. absurd (cc);
+  empty = λ q.
+      let h : f.0 < l = omega (arith, f.1, length-range_with_len 0 l) in
+      (f.0, h, sym (facing-read T a b l f.0 h) ∙ subst (λ (j : ℕ). bit_and (word T (a + j + 1)) (word T (b + l - j)) ≡ 0) (range-at l f.0 h) (f.2 0));
+}
 
 -- ---- added to a row
 
@@ -68,10 +98,6 @@ added_turn T a b l r i s h k t =
     rw (d, e) (added_step T a b l r i s h k t _ refl)
 
 -- ---- what `widen` ensures
-
-or-zero : (w : ℕ) → bit_or w 0 ≡ w
-or-zero w = within_antisym (bit_or w 0) w (λ b e. ⊎_elim (λ p. p) (λ p. absurd (false≢true (sym (zero_bit b) ∙ p))) (of-or-bit w 0 b e))
-    (λ b e. or-bit-left w 0 b e)
 
 module _ (T : List ℕ) (x y l : ℕ) (bd : Words T) (small : l < 64) (in_x : bit (word T (64 * x)) l ≡ true) (in_y : bit (word T (64 * y)) l ≡ true) where
   -- the row of that length
@@ -113,7 +139,7 @@ module _ (T : List ℕ) (x y l : ℕ) (bd : Words T) (small : l < 64) (in_x : bi
       at i true q = let h = ltb-true i l q in a.low i h ∙ ap (bit_or (word r (suc i))) (M-place i h)
       at i false q =
           let h = ltb-false i l q in
-          a.high i h ∙ sym (ap (bit_or (word r (suc i))) (faced-past (row T x) (row T y) l small i h) ∙ or-zero (word r (suc i)))
+          a.high i h ∙ sym (ap (bit_or (word r (suc i))) (faced-past (row T x) (row T y) l small i h) ∙ or_zero_r (word r (suc i)))
 
       each : (i : ℕ) → i < 64 → word (set p 0 (bit_or (word p 0) single)) i ≡ word (or_words 64 r M) i
       each zero h = let n = a.size in get_or-set_same p 0 (bit_or (word p 0) single) 0 (omega arith) ∙ ap₂ bit_or a.first
@@ -133,13 +159,6 @@ module _ (T : List ℕ) (x y l : ℕ) (bd : Words T) (small : l < 64) (in_x : bi
 pub half-start : (T : List ℕ) (x y ls : ℕ) → Common T x y ls → Supports (Mirrored (row T x) (row T y) ls) text_bit 64 (replicate 64 0)
 half-start T x y ls c = mirrored_none (row T x) (row T y) ls
     (λ n p q. c.all n (ap (λ (w : ℕ). bit w n) (sym (row_first T x)) ∙ p) (ap (λ (w : ℕ). bit w n) (sym (row_first T y)) ∙ q))
-
--- the next length goes, so that the rest is less
-pub rest-less : (rest l single : ℕ) → bit rest l ≡ true → single ≡ 2 ^ l → (single ≤ rest) × (rest - single < rest)
-rest-less rest l single e es =
-    let p : 2 ^ l ≤ rest = bit_le rest l e in
-    let q : 0 < 2 ^ l = bit-some (2 ^ l) l (pow_self l) in
-    rw es (p, omega arith)
 
 pub half-turn : (T : List ℕ) (x y ls rest l single : ℕ) (r s : List ℕ) → bit rest l ≡ true → single ≡ 2 ^ l → Widened T x y l r s → Within rest ls
     → Supports (Mirrored (row T x) (row T y) rest) text_bit 64 r

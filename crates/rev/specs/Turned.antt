@@ -1,5 +1,5 @@
 -- Places that face those of another row read backwards, and the strings of X that are a string of Y read backwards. Assumes nothing.
-use Rattle.std.specs.Prelude.{◌≡◌, ◌≢◌, Bool, true, false, List, reverse, ℕ, suc, ◌+◌, ◌-◌, ◌*◌, ◌^◌, ◌≤◌, ◌<◌, length}
+use Rattle.std.specs.Prelude.{Option, Some, None, ◌≡◌, ◌≢◌, Bool, true, false, List, reverse, ℕ, suc, ◌+◌, ◌-◌, ◌*◌, ◌^◌, ◌≤◌, ◌<◌, length}
 use Rattle.std.specs.Int.Bits.{bit_and, bit_or}
 use Rattle.model.specs.Words.{bit, word}
 use Rattle.model.specs.Domains.{row}
@@ -12,12 +12,15 @@ use Rattle.inplace.specs.Written.{Written}
 abbrev pub facing : List ℕ → ℕ → ℕ → ℕ → ℕ → ℕ
 facing T a b l i = bit_and (word T (suc (a + i))) (word T (suc (b + (l - suc i))))
 
--- the places after a become what they allow together with those that face them, m of them, which is something; of l, and the next allows nothing so
-pub record Turn (T : List ℕ) (a b l : ℕ) (U : List ℕ) (m : ℕ) (changed : Bool) : Type 0 where
-  pub small : m ≤ l
+-- m places after a become what they allow together with those that face them, which is something
+pub record Turning (T : List ℕ) (a b l : ℕ) (U : List ℕ) (m : ℕ) (changed : Bool) : Type 0 where
   pub filled : (i : ℕ) → i < m → 0 < facing T a b l i
-  pub stop : m < l → facing T a b l m ≡ 0
   pub written : Written T a (facing T a b l) m U changed
+
+-- all l of them do, or those before one that allows nothing so
+pub record Turn (T : List ℕ) (a b l : ℕ) (U : List ℕ) (r : Option Bool) : Type 0 where
+  pub all : (changed : Bool) → r ≡ Some changed → Turning T a b l U l changed
+  pub stop : r ≡ None → (m : ℕ) × (m < l) × (facing T a b l m ≡ 0) × ((changed : Bool) × Turning T a b l U m changed)
 
 -- whether all l places so allow something
 pub record Turns (T : List ℕ) (a b l : ℕ) (all : Bool) : Type 0 where

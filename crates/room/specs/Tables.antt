@@ -1,7 +1,6 @@
 -- Three tables in one lent slice, and what the moves of a search make of them. Assumes nothing.
-use Rattle.std.specs.Prelude.{◌≡◌, List, ◌++◌, ℕ, ◌-◌, ◌*◌, ◌^◌, ◌≤◌, ◌<◌, length, set, take, drop}
-use Rattle.model.specs.Words.{bits, word}
-use Rattle.laws.specs.Inclusion.{Single}
+use Rattle.std.specs.Prelude.{◌≡◌, true, false, List, ◌++◌, ℕ, ◌-◌, ◌*◌, ◌^◌, ◌≤◌, ◌<◌, length, set, take, drop}
+use Rattle.model.specs.Words.{several, word}
 use Rattle.laws.specs.Traversal.{base}
 use Rattle.words.specs.Ends.{Lowest}
 
@@ -48,15 +47,23 @@ pub record Restart (F : List ℕ) (m at : ℕ) (R U : List ℕ) : Type 0 where
   pub tables : Tables m U (set (base F (table_at m 1 R) at) at (2 ^ value)) (table_at m 1 R)
       (set (table_at m 2 R) at (word (table_at m 2 R) at - 2 ^ value)) (drop (3 * m) R)
 
--- the first word from `from` on with several bits, or the table's length
+-- word `at` is the first from `from` on with several bits
 pub record First (T : List ℕ) (from at : ℕ) : Type 0 where
   pub least : from ≤ at
-  pub most : at ≤ length T
-  pub here : at < length T → 2 ≤ length (bits (word T at))
-  pub before : (j : ℕ) → from ≤ j → j < at → Single (word T j)
+  pub inside : at < length T
+  pub here : several (word T at) ≡ true
+  pub before : (j : ℕ) → from ≤ j → j < at → several (word T j) ≡ false
 
--- one more than the last word before `end` that is not 0, or 0
+-- no word from `from` on has several bits
+pub record AllSingle (T : List ℕ) (from : ℕ) : Type 0 where
+  pub single : (j : ℕ) → from ≤ j → j < length T → several (word T j) ≡ false
+
+-- word `at` is the last before `end` that is not 0
 pub record Last (T : List ℕ) (end at : ℕ) : Type 0 where
-  pub most : at ≤ end
-  pub here : 0 < at → 0 < word T (at - 1)
-  pub after : (j : ℕ) → at ≤ j → j < end → word T j ≡ 0
+  pub most : at < end
+  pub here : 0 < word T at
+  pub after : (j : ℕ) → at < j → j < end → word T j ≡ 0
+
+-- every word before `end` is 0
+pub record NoneWait (T : List ℕ) (end : ℕ) : Type 0 where
+  pub zero : (j : ℕ) → j < end → word T j ≡ 0

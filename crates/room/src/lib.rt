@@ -6,37 +6,12 @@
 
 #![tactic(auto)]
 
-ghost use Rattle.std.specs.Prelude.{◌≡◌, ◌⊎◌, map, ◌+◌, ◌*◌, ◌≤◌, ◌<◌, length, set, replicate, drop};
+ghost use Rattle.std.specs.Prelude.{◌≡◌, map, ◌+◌, ◌*◌, ◌≤◌, ◌<◌, length, set, replicate, drop, MatchOption};
 ghost use Rattle.model.specs.Words.{word};
 ghost use Rattle.model.specs.Layout.{little};
 ghost use Rattle.model.specs.Reading.{pieces};
 ghost use Rattle.laws.specs.Traversal.{base};
-ghost use Rattle.room.specs.Tables.{Tables, within, Chosen, Down, Sibling, Restart, First, Last};
-
-// Every word becomes 0.
-pub fn clear(table: &mut [u64])
-    ensures { table.new ≡ replicate (length table.old) 0 }
-{
-    let n = table.len();
-    let mut i: usize = 0;
-    while i < n {
-        table[i] = 0;
-        i += 1;
-    }
-}
-
-// The words of one table into another.
-pub fn copy(from: &[u64], to: &mut [u64])
-    requires { length to.old ≡ length from.now }
-    ensures { to.new ≡ from.now }
-{
-    let n = to.len();
-    let mut i: usize = 0;
-    while i < n {
-        to[i] = from[i];
-        i += 1;
-    }
-}
+ghost use Rattle.room.specs.Tables.{Tables, Chosen, Down, Sibling, Restart, First, AllSingle, Last, NoneWait};
 
 // The root: both tables are the file's, and nothing waits.
 pub fn start(bytes: &[u8], room: &mut [u64], m: usize)
@@ -46,50 +21,23 @@ pub fn start(bytes: &[u8], room: &mut [u64], m: usize)
 {
     tables::unpack(bytes, &mut room[..m]);
     tables::unpack(bytes, &mut room[m..2 * m]);
-    clear(&mut room[2 * m..3 * m]);
+    room[2 * m..3 * m].fill(0);
 }
 
-// The first word from `from` on with several values, or the length of the table.
-pub fn branch(table: &[u64], from: usize) -> usize
+// The first word from `from` on with several values, where there is one.
+pub fn branch(table: &[u64], from: usize) -> Option<usize>
     requires { from ≤ length table.now }
-    ensures { First table.now from result }
+    ensures { MatchOption result (AllSingle table.now from) (λ at. First table.now from at) }
 {
-    let n = table.len();
-    let mut i = from;
-    while i < n {
-        if words::several(table[i]) {
-            return i;
-        }
-        i += 1;
-    }
-    n
+    (from..table.len()).find(|&at| words::several(table[at]))
 }
 
-// One more than the last word before `end` at which a value waits; 0 where none does.
-pub fn waiting(table: &[u64], end: usize) -> usize
+// The last word before `end` at which a value waits, where one does.
+pub fn waiting(table: &[u64], end: usize) -> Option<usize>
     requires { end ≤ length table.now }
-    ensures { Last table.now end result }
+    ensures { MatchOption result (NoneWait table.now end) (λ at. Last table.now end at) }
 {
-    let mut at = end;
-    while at > 0 {
-        if table[at - 1] != 0 {
-            return at;
-        }
-        at -= 1;
-    }
-    0
-}
-
-// The n words from `from` on over those from `to` on. They may overlap only where they move towards the first word: no word is stored before it was read.
-fn copy_within(room: &mut [u64], from: usize, to: usize, n: usize)
-    requires { (from + n ≤ length room.old) × (to + n ≤ length room.old) × ((to ≤ from) ⊎ (from + n ≤ to)) }
-    ensures { room.new ≡ within from to n room.old }
-{
-    let mut i: usize = 0;
-    while i < n {
-        room[to + i] = room[from + i];
-        i += 1;
-    }
+    (0..end).rev().find(|&at| table[at] != 0)
 }
 
 // The lowest value of word `from`, as a word of its own; the others are left in word `to`.
@@ -109,7 +57,7 @@ pub fn down(room: &mut [u64], m: usize, at: usize)
     ensures { Down m at room.old room.new }
 {
     let v = choose(room, at, 2 * m + at);
-    copy_within(room, 0, m, m); // the current table is kept
+    room.copy_within(..m, m); // the current table is kept
     room[at] = v;
 }
 
@@ -119,7 +67,7 @@ pub fn sibling(room: &mut [u64], m: usize, at: usize)
     ensures { Sibling m at room.old room.new }
 {
     let v = choose(room, 2 * m + at, 2 * m + at);
-    copy_within(room, m, 0, m);
+    room.copy_within(m..2 * m, 0);
     room[at] = v;
 }
 
@@ -139,6 +87,6 @@ pub fn restart(bytes: &[u8], room: &mut [u64], m: usize, at: usize)
     ensures { Restart (map little (pieces m 8 bytes.now)) m at room.old room.new }
 {
     let v = choose(room, 2 * m + at, 2 * m + at);
-    copy_within(room, m, 0, at);
+    room.copy_within(m..m + at, 0);
     decide(bytes, &mut room[..m], at, v);
 }

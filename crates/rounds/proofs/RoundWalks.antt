@@ -19,9 +19,9 @@ use Rattle.laws.proofs.ListLaws.{from-length, from-get_or}
 use Rattle.laws.proofs.TableLaws.{below-of-eq, below_trans, size-most, struck-size}
 use Rattle.laws.proofs.RoundLaws.{run-below, run-append, after-cases, settling-step}
 use Rattle.laws.proofs.CallLaws.{lendable-length, lendable-below}
-use Rattle.layout.specs.declared.Parts.{Parts}
-use Rattle.format.specs.Accepting.{problem_in}
-use Rattle.format.proofs.ContentLaws.{Counts}
+use Rattle.format.specs.declared.problem.Problem as accepted
+use Rattle.format.specs.Problems.{the_problem}
+use Rattle.format.proofs.ContentLaws.{Counts, usable-counts}
 use Rattle.rows.specs.Rows.{trimmed, stored}
 use Rattle.inplace.proofs.Tidied.{trim-placed}
 use Rattle.list.proofs.StepWalkLaws.{Walked, walk_step, walk-lent, walk_ran}
@@ -93,13 +93,19 @@ module _ (P : Problem) where
 
 -- ---- the turns of both walks, in round n
 
-module _ {file : List ℕ} {p : Parts} (h : Counts file p) where
+module _ (p : accepted.Problem) where
   abbrev P : Problem
-  P = problem_in file p
+  P = the_problem p
+
+  h : Counts p.file.now p.parts
+  h = usable-counts p.file.now p.parts p.usable
+
+  pub wide : width P ≤ 1040
+  wide = h.most-words
 
   -- a table that may be lent is short
   pub lent-short : (T : List ℕ) → lendable P T ≡ true → length T ≤ 1040
-  lent-short T l = omega (arith, lendable-length P T l, h.most-words)
+  lent-short T l = omega (arith, lendable-length P T l, wide)
 
   module _ {T U : List ℕ} {n : ℕ} (b : Begins P T U n) {x : ℕ} {X : List ℕ} (v : Walked P (trims P) U x X) where
     pub trim-lent : lendable P X ≡ true
@@ -108,10 +114,10 @@ module _ {file : List ℕ} {p : Parts} (h : Counts file p) where
     trim-length : length X ≡ width P
     trim-length = lendable-length P X trim-lent
 
-    pub trim-room : x < p.s → 64 * x + 64 ≤ length X
+    pub trim-room : x < p.parts.s → 64 * x + 64 ≤ length X
     trim-room l = omega (arith, trim-length, h.strings)
 
-    pub trim-next : {W : List ℕ} → x < p.s → W ≡ stored X x (trimmed (row X x)) → Walked P (trims P) U (x + 1) W
+    pub trim-next : {W : List ℕ} → x < p.parts.s → W ≡ stored X x (trimmed (row X x)) → Walked P (trims P) U (x + 1) W
     trim-next {W} l e =
         let q : x < P.strings = omega (arith, h.strings) in
         walk_step P (trims P) U x X W (omega (arith, trims-length P))
@@ -121,7 +127,7 @@ module _ {file : List ℕ} {p : Parts} (h : Counts file p) where
       pub round-lent : lendable P W ≡ true
       round-lent = lendable-below P W X (below_trans (below-of-eq r) (run-below P P.constraints X)) trim-lent
 
-      module _ (ex : x ≡ p.s) where
+      module _ (ex : x ≡ p.parts.s) where
         is : W ≡ round P U
         is = walks-round P U x X W (ex ∙ sym h.strings) v r
 

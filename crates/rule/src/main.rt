@@ -8,27 +8,15 @@
 
 #![tactic(auto)]
 
-ghost use Rattle.std.specs.Prelude.{◌<◌, length};
-
-fn print(rt: &impl Print, bytes: &[u8]) {
-    let _ = rt.write_all(bytes);
-}
-
-fn print_byte(rt: &impl Print, b: u8) {
-    let bytes = [b];
-    print(rt, &bytes);
-}
-
 // The refusal, or 0 and the automaton.
-fn answer(rt: &impl Print, input: &[u8], buffer: &mut [u8])
-    requires { 0 < length input.now }
-{
-    let k = input[0] as usize;
-    match cobleskeg::compile(&input[1..], k, buffer) {
-        cobleskeg::CompileAnswer::Refused(n) => print_byte(rt, n),
-        cobleskeg::CompileAnswer::Written(size) => {
-            print_byte(rt, 0);
-            print(rt, &buffer[..size]);
+fn answer(rt: &impl Print, k: u8, text: &[u8], buffer: &mut [u8]) {
+    match cobleskeg::compile(text, k as usize, buffer) {
+        Err(e) => {
+            let _ = rt.write_all(&[e.number()]);
+        }
+        Ok(size) => {
+            let _ = rt.write_all(&[0]);
+            let _ = rt.write_all(&buffer[..size]);
         }
     }
 }
@@ -38,7 +26,7 @@ fn main(rt: HostRuntime) {
     let mut input = [0u8; 65];
     let mut buffer = [0u8; 2053];
     let n = streams::read_full(&rt, &mut input);
-    if n > 0 {
-        answer(&rt, &input[..n], &mut buffer);
+    if let Some((k, text)) = input[..n].split_first() {
+        answer(&rt, *k, text, &mut buffer);
     }
 }

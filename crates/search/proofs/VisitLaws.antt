@@ -1,6 +1,7 @@
 -- What a visit leads to: from the words that the code tests to the moves of a search, and from the moves to what a visit says. Assumes nothing.
+use Rattle.std.specs.Prelude.{Option, Some, None}
+use Rattle.std.specs.Option.{unwrap_or}
 use mathlib.Core.Path.{◌≡◌, refl, sym, ap, subst, ◌∙◌}
-use mathlib.Core.Logic.{◌≢◌}
 use mathlib.Core.Bool.{Bool, true, false}
 use mathlib.Core.List.{List, ◌++◌, map}
 use Prim.Native.Nat.{ℕ, suc, ◌+◌, ◌-◌, ◌*◌, ◌^◌, ◌≤◌, ◌<◌}
@@ -10,7 +11,7 @@ use lib.ListN.{length, set, take, drop}
 use lib.Pow.{pow_pos}
 use borrow.Author.Tests.{leb-true, leb-false}
 use Rattle.model.specs.Words.{word}
-use Rattle.model.specs.Layout.{Bytes, little}
+use Rattle.model.specs.Layout.{little}
 use Rattle.model.specs.Reading.{pieces}
 use Rattle.model.specs.Constraints.{Problem, width}
 use Rattle.model.specs.Rounds.{every_value, settled}
@@ -18,21 +19,23 @@ use Rattle.model.specs.Tree.{found}
 use Rattle.laws.specs.Lent.{Stable, lendable}
 use Rattle.laws.specs.Traversal.{At, base}
 use Rattle.laws.proofs.WordLaws.{bit_le}
-use Rattle.laws.proofs.BitsLaws.{two-bits}
+use Rattle.laws.proofs.BitsLaws.{two-bits, several_true, several_false}
 use Rattle.laws.proofs.TableLaws.{below-words}
 use Rattle.laws.proofs.RoundLaws.{settled-below, settled-stable}
 use Rattle.laws.proofs.CallLaws.{lendable-length}
 use Rattle.laws.proofs.ReadingLaws.{Sound}
 use Rattle.laws.proofs.SliceLaws.{replaced}
 use Rattle.laws.proofs.StackLaws.{stack-lendable}
-use Rattle.shortcuts.specs.Waiting.{Begun, Early}
+use Rattle.shortcuts.specs.Waiting.{Early}
 use Rattle.shortcuts.specs.Kept.{Keeping}
 use Rattle.shortcuts.proofs.KeptLaws.{KeptMove, at_from, keeping-solved, keeping-over, keeping-down, keeping-sibling, keeping-restart, sibling-stable}
 use Rattle.words.specs.Ends.{Lowest}
-use Rattle.layout.specs.declared.Parts.{Parts}
-use Rattle.format.specs.Accepting.{content_of, problem_in, table_in, Usable}
-use Rattle.format.proofs.ContentLaws.{usable-sound, usable-width, usable-table}
-use Rattle.room.specs.Tables.{table_at, Tables, Down, Sibling, Restart, First, Last}
+use Rattle.format.specs.declared.problem.Problem as accepted
+use Rattle.format.specs.Accepting.{content_of}
+use Rattle.format.specs.Problems.{the_problem, the_table}
+use Rattle.format.proofs.ContentLaws.{usable-sound, usable-width, usable-bytes, usable-table}
+use Rattle.waiting.specs.Beginnings.{ChildAt}
+use Rattle.room.specs.Tables.{table_at, Tables, Down, Sibling, Restart, First, AllSingle, Last, NoneWait}
 use Rattle.room.proofs.TableAtLaws.{tables-of, table_at-word, table_at-length, lent-part, lent-current}
 use Rattle.search.specs.declared.Path.{Path}
 use Rattle.search.specs.declared.Visited.{Visited}
@@ -50,51 +53,49 @@ waiting-part : (m : ℕ) (R : List ℕ) → take (3 * m - 2 * m) (drop (2 * m) R
 waiting-part m R = lent-part m 2 (2 * m) (3 * m - 2 * m) R (omega arith) (omega arith)
 
 module _ (m : ℕ) (R : List ℕ) (fits : 3 * m ≤ length R) (depth : ℕ) where
+  pub solved-here : AllSingle (take m R) depth → GoesDown m depth R R Solved
+  solved-here f = nothing_open refl (subst (λ (T : List ℕ). AllSingle T depth) (current-part m R) f)
+
   -- the first word with several values
   module _ (at : ℕ) (f : First (take m R) depth at) where
     first-there : First (table_at m 0 R) depth at
     first-there = subst (λ (T : List ℕ). First T depth at) (current-part m R) f
 
-    pub solved-here : at ≡ m → GoesDown m depth R R Solved
-    solved-here e = nothing_open refl (subst (First (table_at m 0 R) depth) e first-there)
+    inside : at < m
+    inside = omega (arith, first-there.inside, table_at-length m 0 R (omega arith) fits)
 
-    module _ (n : at ≢ m) where
-      inside : at < m
-      inside = omega (arith, n, first-there.most, table_at-length m 0 R (omega arith) fits)
+    pub down-there : (3 * m ≤ length R) × (at < m) × (0 < word R at)
+    down-there =
+        let z : m * 0 + at ≡ at = omega arith in
+        let e : word (table_at m 0 R) at ≡ word R at = table_at-word m 0 at R inside ∙ ap (word R) z in
+        let b = two-bits (word (table_at m 0 R) at) (several_true _ first-there.here) in
+        (fits, inside, omega (arith, e, pow_pos b.0, bit_le (word (table_at m 0 R) at) b.0 b.2))
 
-      pub down-there : (3 * m ≤ length R) × (at < m) × (0 < word R at)
-      down-there =
-          let z : m * 0 + at ≡ at = omega arith in
-          let e : word (table_at m 0 R) at ≡ word R at = table_at-word m 0 at R inside ∙ ap (word R) z in
-          let b = two-bits (word (table_at m 0 R) at) (first-there.here (omega (arith, inside, table_at-length m 0 R (omega arith) fits))) in
-          (fits, inside, omega (arith, e, pow_pos b.0, bit_le (word (table_at m 0 R) at) b.0 b.2))
-
-      pub down-next : (U : List ℕ) → Down m at R U → GoesDown m depth R U (On (record { from = at; depth = at + 1; kept = at }))
-      down-next U d = downwards at inside first-there d
+    pub down-next : (U : List ℕ) → Down m at R U → GoesDown m depth R U (On (record { from = Some at; depth = at + 1; kept = Some at }))
+    down-next U d = downwards at first-there d
 
 module _ (m : ℕ) (R : List ℕ) (fits : 3 * m ≤ length R) (path : Path) (deep : path.depth ≤ m) where
-  -- the last word at which a value waits is the one before `end`
-  module _ (end : ℕ) (l : Last (take (3 * m - 2 * m) (drop (2 * m) R)) path.depth end) where
-    last-there : Last (table_at m 2 R) path.depth end
-    last-there = subst (λ (T : List ℕ). Last T path.depth end) (waiting-part m R) l
+  pub over-here : (F : List ℕ) → NoneWait (take (3 * m - 2 * m) (drop (2 * m) R)) path.depth → GoesBack F m path R R Over
+  over-here F l = nothing-waits refl (subst (λ (T : List ℕ). NoneWait T path.depth) (waiting-part m R) l)
 
-    pub over-here : (F : List ℕ) → end ≡ 0 → GoesBack F m path R R Over
-    over-here F e = nothing-waits refl (subst (Last (table_at m 2 R) path.depth) e last-there)
+  -- the last word at which a value waits
+  module _ (at : ℕ) (l : Last (take (3 * m - 2 * m) (drop (2 * m) R)) path.depth at) where
+    last-there : Last (table_at m 2 R) path.depth at
+    last-there = subst (λ (T : List ℕ). Last T path.depth at) (waiting-part m R) l
 
-    module _ (n : end ≢ 0) where
-      pub back-there : (3 * m ≤ length R) × (end - 1 < m) × (0 < word R (2 * m + (end - 1)))
-      back-there =
-          let h : end - 1 < m = omega (arith, n, last-there.most) in
-          let z : m * 2 + (end - 1) ≡ 2 * m + (end - 1) = omega arith in
-          let e : word (table_at m 2 R) (end - 1) ≡ word R (2 * m + (end - 1)) = table_at-word m 2 (end - 1) R h ∙ ap (word R) z in
-          (fits, h, subst (λ (w : ℕ). 0 < w) e (last-there.here (omega (arith, n))))
+    pub back-there : (3 * m ≤ length R) × (at < m) × (0 < word R (2 * m + at))
+    back-there =
+        let h : at < m = omega (arith, last-there.most) in
+        let z : m * 2 + at ≡ 2 * m + at = omega arith in
+        let e : word (table_at m 2 R) at ≡ word R (2 * m + at) = table_at-word m 2 at R h ∙ ap (word R) z in
+        (fits, h, subst (λ (w : ℕ). 0 < w) e last-there.here)
 
-      pub sibling-next : (F U : List ℕ) → end - 1 ≡ path.kept → Sibling m (end - 1) R U
-          → GoesBack F m path R U (On (record { from = end - 1; depth = end; kept = end - 1 }))
-      sibling-next F U e b = to-sibling end (omega (arith, n)) last-there e b
+    pub sibling-next : (F U : List ℕ) → path.kept ≡ Some at → Sibling m at R U
+        → GoesBack F m path R U (On (record { from = Some at; depth = at + 1; kept = Some at }))
+    sibling-next F U e b = to-sibling at last-there e b
 
-      pub restart-next : (F U : List ℕ) → Restart F m (end - 1) R U → GoesBack F m path R U (On (record { from = m; depth = end; kept = path.kept }))
-      restart-next F U b = to-restart end (omega (arith, n)) last-there b
+    pub restart-next : (F U : List ℕ) → Restart F m at R U → GoesBack F m path R U (On (record { from = None; depth = at + 1; kept = path.kept }))
+    restart-next F U b = to-restart at last-there b
 
 -- ---- from the moves to what a visit says
 
@@ -110,19 +111,24 @@ Solved≢Over e = let z : ◌≡◌ {A = ℕ} 0 1 = cc in omega arith
 same_path : {a b : Path} → On a ≡ On b → a ≡ b
 same_path e = cc
 
--- what a visit begins with: a file, and in the room the tables of a search of it
-pub record Visiting (file : List ℕ) (p : Parts) (path : Path) (R : List ℕ) : Type 0 where
-  pub bytes : Bytes file
-  pub usable : Usable file p
-  pub fits : 3 * words_in p ≤ length R
-  pub stands : StandsIn file p path R
+-- the file's table, as its bytes have it
+pub the_table-is : (p : accepted.Problem) → the_table p ≡ map little (pieces (words_in p) 8 (take p.parts.constraints_at p.file.now))
+the_table-is p = rw (usable-width p.file.now p.parts p.usable) (usable-table p.file.now p.parts p.usable)
 
-module _ {file : List ℕ} {p : Parts} {path : Path} {R : List ℕ} (v : Visiting file p path R) where
+pub table-bytes : (p : accepted.Problem) → length (take p.parts.constraints_at p.file.now) ≡ 8 * words_in p
+table-bytes p = rw (usable-width p.file.now p.parts p.usable) (usable-bytes p.file.now p.parts p.usable)
+
+-- what a visit begins with: in the room the tables of a search
+pub record Visiting (p : accepted.Problem) (path : Path) (R : List ℕ) : Type 0 where
+  pub fits : 3 * words_in p ≤ length R
+  pub stands : StandsIn p path R
+
+module _ {p : accepted.Problem} {path : Path} {R : List ℕ} (v : Visiting p path R) where
   abbrev P : Problem
-  P = problem_in file p
+  P = the_problem p
 
   abbrev F : List ℕ
-  F = table_in file p
+  F = the_table p
 
   abbrev m : ℕ
   m = words_in p
@@ -140,11 +146,12 @@ module _ {file : List ℕ} {p : Parts} {path : Path} {R : List ℕ} (v : Visitin
   abbrev node : List ℕ
   node = settled P cur
 
-  sound : Sound (content_of file p)
-  sound = usable-sound file p v.usable v.bytes
+  -- the word that the kept table was branched at; no word where there is none
+  abbrev k₀ : ℕ
+  k₀ = unwrap_or path.kept m
 
-  wide : width P ≡ m
-  wide = usable-width file p v.usable
+  sound : Sound (content_of p.file.now p.parts)
+  sound = usable-sound p.file.now p.parts p.usable p.bytes
 
   file-length : length F ≡ width P
   file-length = lendable-length P F sound.own-table
@@ -155,8 +162,8 @@ module _ {file : List ℕ} {p : Parts} {path : Path} {R : List ℕ} (v : Visitin
   pub current-lendable : lendable P (take m R) ≡ true
   current-lendable = ap (lendable P) (current-part m R) ∙ stack-lendable P F v.stands.1.keeping.stack sound.own-table
 
-  pub current-begun : Begun P (take m R) path.from
-  current-begun = subst (λ (T : List ℕ). Begun P T path.from) (sym (current-part m R)) v.stands.1.begun
+  pub current-begun : ChildAt P (take m R) path.from
+  current-begun = subst (λ (T : List ℕ). ChildAt P T path.from) (sym (current-part m R)) v.stands.1.begun
 
   -- the room once its first table was lent, settled, and has come back
   settled-tables : (ys : List ℕ) → length ys ≡ m → Tables m (ys ++ drop m R) ys kept alt (drop (3 * m) R)
@@ -175,17 +182,20 @@ module _ {file : List ℕ} {p : Parts} {path : Path} {R : List ℕ} (v : Visitin
       first_in : (at : ℕ) → First (table_at m 0 S) path.depth at → First node path.depth at
       first_in at f = subst (λ (T : List ℕ). First T path.depth at) node-there f
 
-      module _ (dec : List ℕ) (s : Standing file p path R dec) where
+      all_single : AllSingle (table_at m 0 S) path.depth → AllSingle node path.depth
+      all_single f = subst (λ (T : List ℕ). AllSingle T path.depth) node-there f
+
+      module _ (dec : List ℕ) (s : Standing p path R dec) where
         down-moved : (at : ℕ) → at < m → First (table_at m 0 S) path.depth at → (d : Down m at S U)
             → KeptMove P F cur dec alt (table_at m 0 U) (set dec at (2 ^ d.value)) (table_at m 1 U) (table_at m 2 U) at (suc at)
         down-moved at h f d =
             let g = first_in at f in
             let low : Lowest (word node at) d.value = subst (λ (T : List ℕ). Lowest (word T at) d.value) node-there d.lowest in
-            let here : At node at = at_from P sound.well_formed F sound.words file-length s.keeping at g.least (omega (arith, wide)) (g.here (omega (arith, node-length))) g.before in
+            let here : At node at = at_from P sound.well_formed F sound.words file-length s.keeping at g.least (omega arith) (several_true _ g.here) (λ j l n. several_false _ (g.before j l n)) in
             rw (d.tables.current, d.tables.kept, d.tables.waiting, node-there, t.waiting)
             (keeping-down P sound.well_formed F sound.words file-length s.keeping at d.value here alive low.here low.below)
 
-        down-moves : (at : ℕ) → at < m → First (table_at m 0 S) path.depth at → Down m at S U → Moves file p R dec (record { from = at; depth = at + 1; kept = at }) U
+        down-moves : (at : ℕ) → at < m → First (table_at m 0 S) path.depth at → Down m at S U → Moves p R dec (record { from = Some at; depth = at + 1; kept = Some at }) U
         down-moves at h f d =
             let k = down-moved at h f d in
             let deeper : suc at ≡ at + 1 = omega arith in
@@ -193,133 +203,143 @@ module _ {file : List ℕ} {p : Parts} {path : Path} {R : List ℕ} (v : Visitin
               decisions = set dec at (2 ^ d.value);
               standing = record {
                 keeping = subst (λ (n : ℕ). Keeping P F (table_at m 0 U) (set dec at (2 ^ d.value)) (table_at m 1 U) (table_at m 2 U) at n) deeper k.keeping;
-                begun = λ i. record {
-                  node = node;
-                  value = d.value;
-                  long = node-length ∙ sym wide;
-                  stable = settled-stable P cur (below-words s.keeping.stack.current sound.words);
-                  is = d.tables.current ∙ ap (λ (T : List ℕ). set T at (2 ^ d.value)) node-there;
-                };
+                begun = (
+                  h,
+                  record {
+                    node = node;
+                    value = d.value;
+                    long = node-length;
+                    stable = settled-stable P cur (below-words s.keeping.stack.current sound.words);
+                    is = d.tables.current ∙ ap (λ (T : List ℕ). set T at (2 ^ d.value)) node-there;
+                  },
+                );
                 inside = omega arith;
               };
               visits = k.visits;
             }
 
-      visit-down : (r : Visited) → GoesDown m path.depth S U r → Visits file p path R U r
+      visit-down : (r : Visited) → GoesDown m path.depth S U r → Visits p path R U r
       visit-down r d = go d
         where
-          go : {r : Visited} → GoesDown m path.depth S U r → Visits file p path R U r
+          go : {r : Visited} → GoesDown m path.depth S U r → Visits p path R U r
           go (nothing_open q f) = record {
             beyond = ap (drop (3 * m)) q ∙ t.beyond;
             solved = λ h dec s A i b.
                 keeping-solved P sound.well_formed F sound.words file-length s.keeping alive
-                (λ j l n. (first_in m f).before j l (omega (arith, wide))) A i b
+                (λ j l n. several_false _ ((all_single f).single j l (omega (arith, node-length)))) A i b
                 ∙ ap (λ (T : List ℕ). record { outcome = found (suc i); table = T }) (sym (ap (table_at m 0) q ∙ node-there));
             over = λ h. absurd (Solved≢Over h);
             on = λ next h. absurd (On≢Solved (sym h));
           }
-          go (downwards at l f d) = record {
-            beyond = d.tables.beyond ∙ t.beyond;
-            solved = λ h. absurd (On≢Solved h);
-            over = λ h. absurd (On≢Over h);
-            on = λ next h dec s. subst (λ (n : Path). Moves file p R dec n U) (same_path h) (down-moves dec s at l f d);
-          }
+          go (downwards at f d) =
+              let l : at < m = omega (arith, (first_in at f).inside, node-length) in
+              record {
+                beyond = d.tables.beyond ∙ t.beyond;
+                solved = λ h. absurd (On≢Solved h);
+                over = λ h. absurd (On≢Over h);
+                on = λ next h dec s. subst (λ (n : Path). Moves p R dec n U) (same_path h) (down-moves dec s at l f d);
+              }
 
     -- a variable has no value, whatever the table has become
     module _ (e : Early P (take m R) ys false) where
       dead : every_value P node ≡ false
       dead = sym (e.says ∙ ap (λ (T : List ℕ). every_value P (settled P T)) (current-part m R))
 
-      last_in : (end : ℕ) → Last (table_at m 2 S) path.depth end → Last alt path.depth end
-      last_in end l = subst (λ (T : List ℕ). Last T path.depth end) t.waiting l
+      last_in : (at : ℕ) → Last (table_at m 2 S) path.depth at → Last alt path.depth at
+      last_in at l = subst (λ (T : List ℕ). Last T path.depth at) t.waiting l
 
-      module _ (dec : List ℕ) (s : Standing file p path R dec) (end : ℕ) (n : 0 < end) (l : Last (table_at m 2 S) path.depth end) where
-        last-inside : end - 1 < width P
-        last-inside = omega (arith, wide, s.inside, l.most)
+      module _ (dec : List ℕ) (s : Standing p path R dec) (at : ℕ) (l : Last (table_at m 2 S) path.depth at) where
+        last-inside : at < width P
+        last-inside = omega (arith, s.inside, l.most)
 
         -- nothing waits behind it
-        past : (j : ℕ) → suc (end - 1) ≤ j → j < width P → word alt j ≡ 0
+        past : (j : ℕ) → suc at ≤ j → j < width P → word alt j ≡ 0
         past j h i = go (leb path.depth j) refl
           where
             go : (b : Bool) → leb path.depth j ≡ b → word alt j ≡ 0
             go true q = s.keeping.clear j (leb-true path.depth j q) i
-            go false q = (last_in end l).after j (omega (arith, h, n)) (leb-false path.depth j q)
+            go false q = (last_in at l).after j (omega (arith, h)) (leb-false path.depth j q)
 
-        deeper : suc (end - 1) ≡ end
-        deeper = omega (arith, n)
+        deeper : suc at ≡ at + 1
+        deeper = omega arith
 
-        module _ (value : ℕ) (lowest : Lowest (word (table_at m 2 S) (end - 1)) value) where
-          low : Lowest (word alt (end - 1)) value
-          low = subst (λ (T : List ℕ). Lowest (word T (end - 1)) value) t.waiting lowest
+        module _ (value : ℕ) (lowest : Lowest (word (table_at m 2 S) at) value) where
+          low : Lowest (word alt at) value
+          low = subst (λ (T : List ℕ). Lowest (word T at) value) t.waiting lowest
 
-          sibling-move : end - 1 ≡ path.kept
-              → KeptMove P F cur dec alt (set kept (end - 1) (2 ^ value)) (set (base F dec (end - 1)) (end - 1) (2 ^ value)) kept
-              (set alt (end - 1) (word alt (end - 1) - 2 ^ value)) path.kept (suc (end - 1))
-          sibling-move q = keeping-sibling P sound.well_formed F sound.words file-length s.keeping (end - 1) value dead last-inside low.here low.below past q
+          sibling-move : at ≡ k₀
+              → KeptMove P F cur dec alt (set kept at (2 ^ value)) (set (base F dec at) at (2 ^ value)) kept
+              (set alt at (word alt at - 2 ^ value)) k₀ (suc at)
+          sibling-move q = keeping-sibling P sound.well_formed F sound.words file-length s.keeping at value dead last-inside low.here low.below past q
 
-          restart-move : KeptMove P F cur dec alt (set (base F kept (end - 1)) (end - 1) (2 ^ value)) (set (base F dec (end - 1)) (end - 1) (2 ^ value)) kept
-              (set alt (end - 1) (word alt (end - 1) - 2 ^ value)) path.kept (suc (end - 1))
-          restart-move = keeping-restart P sound.well_formed F sound.words file-length s.keeping (end - 1) value dead last-inside low.here low.below past
+          restart-move : KeptMove P F cur dec alt (set (base F kept at) at (2 ^ value)) (set (base F dec at) at (2 ^ value)) kept
+              (set alt at (word alt at - 2 ^ value)) k₀ (suc at)
+          restart-move = keeping-restart P sound.well_formed F sound.words file-length s.keeping at value dead last-inside low.here low.below past
 
-          kept-stable : end - 1 ≡ path.kept → Stable P kept
-          kept-stable q = (sibling-stable P sound.well_formed F sound.words file-length s.keeping (end - 1) value dead last-inside low.here low.below past q).0
+          kept-stable : at ≡ k₀ → Stable P kept
+          kept-stable q = (sibling-stable P sound.well_formed F sound.words file-length s.keeping at value dead last-inside low.here low.below past q).0
 
-        sibling-moves : end - 1 ≡ path.kept → Sibling m (end - 1) S U → Moves file p R dec (record { from = end - 1; depth = end; kept = end - 1 }) U
-        sibling-moves q d =
-            let k : KeptMove P F cur dec alt (table_at m 0 U) (set (base F dec (end - 1)) (end - 1) (2 ^ d.value)) (table_at m 1 U) (table_at m 2 U) path.kept (suc (end - 1)) =
+        sibling-moves : path.kept ≡ Some at → Sibling m at S U → Moves p R dec (record { from = Some at; depth = at + 1; kept = Some at }) U
+        sibling-moves e d =
+            let q : at ≡ k₀ = sym (ap (λ (o : Option ℕ). unwrap_or o m) e) in
+            let k : KeptMove P F cur dec alt (table_at m 0 U) (set (base F dec at) at (2 ^ d.value)) (table_at m 1 U) (table_at m 2 U) k₀ (suc at) =
             rw (d.tables.current, d.tables.kept, d.tables.waiting, t.kept, t.waiting) (sibling-move d.value d.lowest q) in
             record {
-              decisions = set (base F dec (end - 1)) (end - 1) (2 ^ d.value);
+              decisions = set (base F dec at) at (2 ^ d.value);
               standing = record {
-                keeping = subst (λ (n : ℕ). Keeping P F (table_at m 0 U) (set (base F dec (end - 1)) (end - 1) (2 ^ d.value)) (table_at m 1 U) (table_at m 2 U) n end) (sym q)
-                    (subst (λ (n : ℕ). Keeping P F (table_at m 0 U) (set (base F dec (end - 1)) (end - 1) (2 ^ d.value)) (table_at m 1 U) (table_at m 2 U) path.kept n) deeper k.keeping);
-                begun = λ i. record {
-                  node = kept;
-                  value = d.value;
-                  long = table_at-length m 1 R (omega arith) v.fits ∙ sym wide;
-                  stable = kept-stable d.value d.lowest q;
-                  is = d.tables.current ∙ ap (λ (T : List ℕ). set T (end - 1) (2 ^ d.value)) t.kept;
-                };
+                keeping = subst (λ (n : ℕ). Keeping P F (table_at m 0 U) (set (base F dec at) at (2 ^ d.value)) (table_at m 1 U) (table_at m 2 U) n (at + 1)) (sym q)
+                    (subst (λ (n : ℕ). Keeping P F (table_at m 0 U) (set (base F dec at) at (2 ^ d.value)) (table_at m 1 U) (table_at m 2 U) k₀ n) deeper k.keeping);
+                begun = (
+                  last-inside,
+                  record {
+                    node = kept;
+                    value = d.value;
+                    long = table_at-length m 1 R (omega arith) v.fits;
+                    stable = kept-stable d.value d.lowest q;
+                    is = d.tables.current ∙ ap (λ (T : List ℕ). set T at (2 ^ d.value)) t.kept;
+                  },
+                );
                 inside = omega (arith, s.inside, l.most);
               };
               visits = k.visits;
             }
 
-        restart-moves : Restart F m (end - 1) S U → Moves file p R dec (record { from = m; depth = end; kept = path.kept }) U
+        restart-moves : Restart F m at S U → Moves p R dec (record { from = None; depth = at + 1; kept = path.kept }) U
         restart-moves d =
-            let k : KeptMove P F cur dec alt (table_at m 0 U) (set (base F dec (end - 1)) (end - 1) (2 ^ d.value)) (table_at m 1 U) (table_at m 2 U) path.kept (suc (end - 1)) =
+            let k : KeptMove P F cur dec alt (table_at m 0 U) (set (base F dec at) at (2 ^ d.value)) (table_at m 1 U) (table_at m 2 U) k₀ (suc at) =
             rw (d.tables.current, d.tables.kept, d.tables.waiting, t.kept, t.waiting) (restart-move d.value d.lowest) in
             record {
-              decisions = set (base F dec (end - 1)) (end - 1) (2 ^ d.value);
+              decisions = set (base F dec at) at (2 ^ d.value);
               standing = record {
-                keeping = subst (λ (n : ℕ). Keeping P F (table_at m 0 U) (set (base F dec (end - 1)) (end - 1) (2 ^ d.value)) (table_at m 1 U) (table_at m 2 U) path.kept n) deeper k.keeping;
-                begun = λ i. absurd (omega (arith, i, wide));
+                keeping = subst (λ (n : ℕ). Keeping P F (table_at m 0 U) (set (base F dec at) at (2 ^ d.value)) (table_at m 1 U) (table_at m 2 U) k₀ n) deeper k.keeping;
+                begun = tt;
                 inside = omega (arith, s.inside, l.most);
               };
               visits = k.visits;
             }
 
-      visit-back : (r : Visited) → GoesBack (map little (pieces m 8 (take p.constraints_at file))) m path S U r → Visits file p path R U r
-      visit-back r d = go (subst (λ (T : List ℕ). GoesBack T m path S U r) (sym (usable-table file p v.usable)) d)
+      visit-back : (r : Visited) → GoesBack (map little (pieces m 8 (take p.parts.constraints_at p.file.now))) m path S U r → Visits p path R U r
+      visit-back r d = go (subst (λ (T : List ℕ). GoesBack T m path S U r) (sym (the_table-is p)) d)
         where
-          go : {r : Visited} → GoesBack F m path S U r → Visits file p path R U r
+          go : {r : Visited} → GoesBack F m path S U r → Visits p path R U r
           go (nothing-waits q z) = record {
             beyond = ap (drop (3 * m)) q ∙ t.beyond;
             solved = λ h. absurd (Solved≢Over (sym h));
-            over = λ h dec s. keeping-over P sound.well_formed F sound.words file-length s.keeping dead (λ j n i. (last_in 0 z).after j (omega arith) n);
+            over = λ h dec s. keeping-over P sound.well_formed F sound.words file-length s.keeping dead
+                (λ j n i. (subst (λ (T : List ℕ). NoneWait T path.depth) t.waiting z).zero j n);
             on = λ next h. absurd (On≢Over (sym h));
           }
-          go (to-sibling end n l q d) = record {
+          go (to-sibling at l q d) = record {
             beyond = d.tables.beyond ∙ t.beyond;
             solved = λ h. absurd (On≢Solved h);
             over = λ h. absurd (On≢Over h);
-            on = λ next h dec s. subst (λ (x : Path). Moves file p R dec x U) (same_path h) (sibling-moves dec s end n l q d);
+            on = λ next h dec s. subst (λ (x : Path). Moves p R dec x U) (same_path h) (sibling-moves dec s at l q d);
           }
-          go (to-restart end n l d) = record {
+          go (to-restart at l d) = record {
             beyond = d.tables.beyond ∙ t.beyond;
             solved = λ h. absurd (On≢Solved h);
             over = λ h. absurd (On≢Over h);
-            on = λ next h dec s. subst (λ (x : Path). Moves file p R dec x U) (same_path h) (restart-moves dec s end n l d);
+            on = λ next h dec s. subst (λ (x : Path). Moves p R dec x U) (same_path h) (restart-moves dec s at l d);
           }
 
   -- the first table was lent to be settled, and has come back as ys
@@ -327,9 +347,9 @@ module _ {file : List ℕ} {p : Parts} {path : Path} {R : List ℕ} (v : Visitin
     long : length ys ≡ m
     long = e.same_length ∙ ap length (current-part m R) ∙ table_at-length m 0 R (omega arith) v.fits
 
-    pub settled-down : b ≡ true → GoesDown m path.depth (ys ++ drop m R) U r → Visits file p path R U r
+    pub settled-down : b ≡ true → GoesDown m path.depth (ys ++ drop m R) U r → Visits p path R U r
     settled-down q d = visit-down ys (ys ++ drop m R) (settled-tables ys long) U (subst (Early P (take m R) ys) q e) r d
 
-    pub settled_back : b ≡ false → GoesBack (map little (pieces m 8 (take p.constraints_at file))) m path (ys ++ drop m R) U r
-        → Visits file p path R U r
+    pub settled_back : b ≡ false → GoesBack (map little (pieces m 8 (take p.parts.constraints_at p.file.now))) m path (ys ++ drop m R) U r
+        → Visits p path R U r
     settled_back q d = visit-back ys (ys ++ drop m R) (settled-tables ys long) U (subst (Early P (take m R) ys) q e) r d

@@ -10,163 +10,128 @@
 
 #![tactic(auto)]
 
-ghost use Rattle.std.specs.Prelude.{◌≤◌, length};
+ghost use Rattle.std.specs.Iterator.{at_most};
+ghost use Rattle.std.specs.Prelude.{length};
 
-// What a run answers.
+use cobleskeg::{Refusal, Settled};
+use std::fmt;
+
+#[derive(Clone, Copy)]
+enum Operation {
+    Settle,
+    SettleByIndex,
+    Unpack,
+    Index,
+}
+
+// By the number of a case; each number from 3 on is Index's.
+impl From<u16> for Operation {
+    fn from(n: u16) -> Operation {
+        match n {
+            0 => Operation::Settle,
+            1 => Operation::SettleByIndex,
+            2 => Operation::Unpack,
+            _ => Operation::Index,
+        }
+    }
+}
+
+#[derive(Clone, Copy)]
+struct Case<'a> {
+    operation: Operation,
+    times: u32,
+    file: &'a [u8],
+}
+
+// The cases that the input still holds.
+#[derive(Drop)]
+struct Cases<'a>(&'a [u8]);
+
+impl<'a> Iterator for Cases<'a> {
+    type Item = Case<'a>;
+
+    ghost remaining = { λ s. at_most (length s.0.now) };
+
+    // None too where less of a case is left than it says.
+    fn next(&mut self) -> Option<Case<'a>> {
+        let head = self.0.split_off(..8)?;
+        let file = self.0.split_off(..little::two(head, 0) as usize)?;
+        Some(Case {
+            operation: Operation::from(little::two(head, 2)),
+            times: little::four(head, 4),
+            file,
+        })
+    }
+}
+
+// What a run that is not refused answers.
 #[derive(Clone, Copy)]
 enum Answer {
-    Refused(u8),
+    Rounds(Settled),
+    Steps(Settled),
     Done,
-    Rounds(cobleskeg::Rounds),
-    Steps(cobleskeg::Steps),
 }
 
-fn print(rt: &impl Print, text: &[u8]) {
-    let _ = rt.write_all(text);
-}
-
-fn print_number(rt: &impl Print, n: u64) {
-    print(rt, b" ");
-    let _ = rt.print(n);
-}
-
-fn print_refused(rt: &impl Print, n: u8) {
-    print(rt, b"refused");
-    print_number(rt, n as u64);
-    print(rt, b"\n");
-}
-
-// How many there were, and 1 where every variable has a value after them, else 0.
-fn print_settled(rt: &impl Print, what: &[u8], count: u32, every_value: bool) {
-    print(rt, what);
-    print_number(rt, count as u64);
-    print_number(rt, every_value as u64);
-    print(rt, b"\n");
-}
-
-fn print_answer(rt: &impl Print, answer: Answer) {
-    match answer {
-        Answer::Refused(n) => print_refused(rt, n),
-        Answer::Done => print(rt, b"done\n"),
-        Answer::Rounds(r) => print_settled(rt, b"rounds", r.count, r.every_value),
-        Answer::Steps(r) => print_settled(rt, b"steps", r.count, r.every_value),
-    }
-}
-
-fn unpacked(file: &[u8], table: &mut [u64]) -> Answer {
-    match cobleskeg::unpack(file, table) {
-        cobleskeg::UnpackAnswer::Refused(n) => Answer::Refused(n),
-        cobleskeg::UnpackAnswer::Unpacked => Answer::Done,
-    }
-}
-
-fn settled(file: &[u8], table: &mut [u64]) -> Answer {
-    cobleskeg::unpack(file, table);
-    match cobleskeg::settle(file, table) {
-        cobleskeg::SettleAnswer::Refused(n) => Answer::Refused(n),
-        cobleskeg::SettleAnswer::Settled(r) => Answer::Rounds(r),
-    }
-}
-
-fn settled_by_index(file: &[u8], index: &[u64], table: &mut [u64]) -> Answer {
-    cobleskeg::unpack(file, table);
-    match cobleskeg::settle_by_index(file, index, table) {
-        cobleskeg::SettleByIndexAnswer::Refused(n) => Answer::Refused(n),
-        cobleskeg::SettleByIndexAnswer::Settled(r) => Answer::Steps(r),
-    }
-}
-
-fn indexed(file: &[u8], index: &mut [u64]) -> Answer {
-    match cobleskeg::index(file, index) {
-        cobleskeg::IndexAnswer::Refused(n) => Answer::Refused(n),
-        cobleskeg::IndexAnswer::Indexed => Answer::Done,
+// How many rounds or steps there were, and 1 where every variable has a value after them, else 0.
+impl fmt::Display for Answer {
+    fn fmt<W: fmt::Write>(&self, f: &mut fmt::Formatter<W>) -> fmt::Result {
+        match self {
+            Answer::Rounds(s) => write!(f, "rounds {} {}", s.count, s.every_value as u8),
+            Answer::Steps(s) => write!(f, "steps {} {}", s.count, s.every_value as u8),
+            Answer::Done => write!(f, "done"),
+        }
     }
 }
 
 // One run.
-fn once(file: &[u8], operation: usize, index: &mut [u64], table: &mut [u64]) -> Answer {
-    match operation {
-        0 => settled(file, table),
-        1 => settled_by_index(file, index, table),
-        2 => unpacked(file, table),
-        _ => indexed(file, index),
+fn once(case: &Case, index: &mut [u64], table: &mut [u64]) -> Result<Answer, Refusal> {
+    let file = case.file;
+    match case.operation {
+        Operation::Settle => {
+            cobleskeg::unpack(file, table)?;
+            cobleskeg::settle(file, table).map(Answer::Rounds)
+        }
+        Operation::SettleByIndex => {
+            cobleskeg::unpack(file, table)?;
+            cobleskeg::settle_by_index(file, index, table).map(Answer::Steps)
+        }
+        Operation::Unpack => cobleskeg::unpack(file, table).map(|_| Answer::Done),
+        Operation::Index => cobleskeg::index(file, index).map(|_| Answer::Done),
     }
 }
 
 // Runs so many times, and once more for the line.
-fn run(
-    rt: &impl Print,
-    file: &[u8],
-    operation: usize,
-    times: u32,
-    index: &mut [u64],
-    table: &mut [u64],
-) {
-    cobleskeg::index(file, index);
-    let mut i: u32 = 0;
-    while i < times {
-        once(file, operation, index, table);
-        i += 1;
+fn run(case: &Case, index: &mut [u64], table: &mut [u64]) -> Result<Answer, Refusal> {
+    cobleskeg::index(case.file, index)?;
+    for _ in 0..case.times {
+        once(case, index, table)?;
     }
-    print_answer(rt, once(file, operation, index, table));
-}
-
-// Lends the first words of an index and of a table.
-fn lend(
-    rt: &impl Print,
-    file: &[u8],
-    operation: usize,
-    times: u32,
-    index: &mut [u64],
-    pairs: usize,
-    table: &mut [u64],
-    words: usize,
-)
-    requires { (pairs ≤ length index.old) × (words ≤ length table.old) }
-{
-    run(
-        rt,
-        file,
-        operation,
-        times,
-        &mut index[..pairs],
-        &mut table[..words],
-    );
+    once(case, index, table)
 }
 
 // Index and table are as long as the file's.
-fn report(rt: &impl Print, file: &[u8], operation: usize, times: u32) {
+fn report(rt: &impl Print, case: &Case) {
     let mut index = [0u64; 64];
     let mut table = [0u64; 1040];
-    match cobleskeg::read(file) {
-        cobleskeg::ReadAnswer::Refused(n) => print_refused(rt, n),
-        cobleskeg::ReadAnswer::Counts(h) => {
-            if h.strings <= 16 {
-                if h.numbers <= 16 {
-                    let pairs = 2 * (h.strings + h.numbers);
-                    let words = 64 * h.strings + h.numbers;
-                    lend(
-                        rt, file, operation, times, &mut index, pairs, &mut table, words,
-                    );
-                }
-            }
-        }
-    }
+    let answer = match cobleskeg::read(case.file) {
+        Ok(h) if h.strings <= 16 && h.numbers <= 16 => run(
+            case,
+            &mut index[..2 * (h.strings + h.numbers)],
+            &mut table[..64 * h.strings + h.numbers],
+        ),
+        Ok(_) => return,
+        Err(e) => Err(e),
+    };
+    let _ = match answer {
+        Ok(a) => println!(rt; "{a}"),
+        Err(e) => println!(rt; "refused {}", e.number()),
+    };
 }
 
 fn main(rt: HostRuntime) {
     let mut input: [u8; 131072] = streams::zeros();
     let n = streams::read_full(&rt, &mut input);
-    let mut at: usize = 0;
-    while at + 8 <= n {
-        let size = little::two(&input, at) as usize;
-        let operation = little::two(&input, at + 2) as usize;
-        let times = little::four(&input, at + 4);
-        at += 8;
-        if size > n - at {
-            return;
-        }
-        report(&rt, &input[at..at + size], operation, times);
-        at += size;
+    for case in Cases(&input[..n]) {
+        report(&rt, &case);
     }
 }

@@ -1,6 +1,7 @@
 -- Strings and words struck whole, one after the other: what is left is the table that a constraint without a choice leaves. Assumes nothing.
+use Rattle.std.specs.Prelude.{Some}
 use mathlib.Core.Path.{◌≡◌, refl, sym, ap, subst, ◌∙◌}
-use mathlib.Core.Bool.{Bool, true, false, cond, false≢true}
+use mathlib.Core.Bool.{Bool, true, false, false≢true}
 use mathlib.Core.List.Memᴰ
 use mathlib.Core.List.{List, [], ◌∷◌, ◌++◌, map}
 use Prim.Native.Nat.{ℕ, zero, suc, ◌+◌, ◌*◌, ◌<◌, ◌≤◌}
@@ -18,7 +19,7 @@ use Rattle.laws.specs.Inclusion.{In}
 use Rattle.laws.proofs.DomainLaws.{by_word, owner-text, owner-value}
 use Rattle.laws.proofs.SupportLaws.{touched, touched-text, touched-value}
 use Rattle.inplace.specs.InTable.{Cleared}
-use Rattle.steps.specs.declared.Names.{Names}
+use Rattle.records.specs.declared.names.Names.{Names}
 use Rattle.steps.specs.Step.{cleared}
 use Rattle.steps.specs.Names.{texts, numbers, Naming, Inside, Blanked}
 use Rattle.steps.proofs.ClearLaws.{is-cleared}
@@ -105,23 +106,11 @@ blanked_cleared P c m T U r n b = is-cleared P c T U b.size gone other
 
 -- ---- the loop over the strings that are named
 
-module _ (m : Names) (T : List ℕ) (f : Inside m T) (l : length m.strings ≡ 3) where
-  pub blanked_turn : (j : ℕ) → j < m.count → {U W : List ℕ} → Blanked (take j m.strings) [] T U → Blanked (get_or m.strings j 0 ∷ []) [] U W → Blanked (take (j + 1) m.strings) [] T W
-  blanked_turn j h {U} {W} a b =
-      let k = f.most in
-      subst (λ (xs : List ℕ). Blanked xs [] T W) (sym (take_next m.strings j (omega arith))) (blanked_next (take j m.strings) (get_or m.strings j 0) T U W a b)
+pub blanked_turn : (xs : List ℕ) (j : ℕ) → j < length xs → {T U W : List ℕ} → Blanked (take j xs) [] T U → Blanked (get_or xs j 0 ∷ []) [] U W → Blanked (take (j + 1) xs) [] T W
+blanked_turn xs j h {T} {U} {W} a b = subst (λ (ys : List ℕ). Blanked ys [] T W) (sym (take_next xs j h)) (blanked_next (take j xs) (get_or xs j 0) T U W a b)
 
-  module _ (j : ℕ) (e : j ≡ m.count) {U : List ℕ} (a : Blanked (take j m.strings) [] T U) where
-    all : Blanked (texts m) [] T U
-    all = subst (λ (i : ℕ). Blanked (take i m.strings) [] T U) e a
-
-    -- without a number
-    pub blanked_end : m.numbered ≡ false → Blanked (texts m) (numbers m) T U
-    blanked_end q = subst (λ (is : List ℕ). Blanked (texts m) is T U) (sym (ap (λ (t : Bool). cond t (m.number ∷ []) []) q)) all
-
-    -- and with one
-    pub blanked_last : m.numbered ≡ true → Blanked (texts m) (numbers m) T (set U m.number 0)
-    blanked_last q =
-        let is : numbers m ≡ m.number ∷ [] = ap (λ (t : Bool). cond t (m.number ∷ []) []) q in
-        let i : In m.number (numbers m) = subst (λ (l : List ℕ). In m.number l) (sym is) (Memᴰ.head refl) in
-        subst (λ (is : List ℕ). Blanked (texts m) is T (set U m.number 0)) (sym is) (blanked_word (texts m) m.number T U (f.words m.number i) (λ x k. f.past x k m.number i) all)
+-- and the number, where there is one
+pub blanked_last : (m : Names) (T : List ℕ) → Inside m T → (i : ℕ) → m.number ≡ Some i → {U : List ℕ} → Blanked (texts m) [] T U → Blanked (texts m) (numbers m) T (set U i 0)
+blanked_last m T f i q {U} a =
+    let n : In i (numbers m) = rw q (Memᴰ.head refl) in
+    rw q (blanked_word (texts m) i T U (f.words i n) (λ x k. f.past x k i n) a)

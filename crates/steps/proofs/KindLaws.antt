@@ -1,5 +1,6 @@
 -- Each kind of constraint on a lent table of an accepted file: what its relation asks of the rows and words that it names, and the step that it then makes of the whole
 -- table. Assumes nothing.
+use Rattle.std.specs.Prelude.{Option}
 use mathlib.Core.Path.{◌≡◌, refl, sym, ap, subst, ◌∙◌}
 use mathlib.Core.Logic.{◌≢◌}
 use mathlib.Core.Bool.{true, false, ◌||◌, false≢true}
@@ -14,7 +15,6 @@ use Rattle.model.specs.Lists.{from, upto}
 use Rattle.model.specs.Domains.{str, num, row}
 use Rattle.model.specs.Constraints.{Problem, Constraint, Choice, Automaton, no_automaton, width, variables, meets, accepts, eq, neq, rev, cat, sub, len, regular}
 use Rattle.model.specs.Rounds.{variables_of}
-use Rattle.model.specs.Layout.{Bytes}
 use Rattle.model.specs.Reading.{repeats}
 use Rattle.laws.specs.Inclusion.{In}
 use Rattle.laws.specs.Lent.{lendable}
@@ -25,14 +25,15 @@ use Rattle.laws.proofs.RenameLaws.{pulled}
 use Rattle.rows.specs.Rows.{alone}
 use Rattle.rows.proofs.NamedLaws.{places}
 use Rattle.rows.proofs.NamedLaws.{named_kind, one_below, more-below, none_below, one-distinct, two-distinct, three-distinct}
-use Rattle.layout.specs.declared.Parts.{Parts}
 use Rattle.records.specs.declared.Record.{Record}
 use Rattle.records.specs.declared.Record.TheVariants.{Eq, Neq, Rev, Cat, Sub, Len, Regular}
 use Rattle.records.specs.Records.{constraint_of}
 use Rattle.records.proofs.RecordLaws.{two_repeat, two-and-number_repeat, three_repeat}
-use Rattle.format.specs.Accepting.{content_of, problem_in, Usable}
+use Rattle.format.specs.declared.problem.Problem as accepted
+use Rattle.format.specs.Accepting.{content_of}
+use Rattle.format.specs.Problems.{the_problem}
 use Rattle.format.proofs.ContentLaws.{usable-counts, usable-sound, usable-machine}
-use Rattle.inplace.specs.declared.Change.{Change}
+use Rattle.inplace.specs.declared.Changed.{Changed}
 use Rattle.inplace.specs.InTable.{Tidy}
 use Rattle.inplace.specs.InPlace.{InPlace}
 use Rattle.cat.specs.Strings.{Strings}
@@ -44,30 +45,30 @@ differ {x} {y} e q = false≢true (sym e ∙ eq-eqb x y (sym q))
 
 -- ---- an automaton: one string, and no file
 
-pub regular-narrows : (P : Problem) (x d : ℕ) (A : Automaton) → A ≡ get_or P.automata d no_automaton → x < P.strings → (T U : List ℕ) → length T ≡ width P → (n : Change)
+pub regular-narrows : (P : Problem) (x d : ℕ) (A : Automaton) → A ≡ get_or P.automata d no_automaton → x < P.strings → (T U : List ℕ) → length T ≡ width P → (n : Option Changed)
     → InPlace (A ∷ []) (regular 0 0) (x ∷ []) [] T U n → Narrows P (regular x d) T U n
 unfolding variables_of alone upto from variables meets
 regular-narrows P x d A e h T U ln n s = narrows P (regular x d) (regular 0 0) (A ∷ []) (x ∷ []) []
     (named_kind P (regular x d) (regular 0 0) (A ∷ []) (x ∷ []) [] refl refl (λ α. ap (λ (B : Automaton). accepts B (α.text x)) (sym e)) (one_below P.strings h) (none_below P.numbers) (one-distinct x) tt)
     refl T U ln n s
 
-module _ (file : List ℕ) (p : Parts) (ks : List ℕ) (r : Record) (T : List ℕ) (b : Bytes file)
-    (pre : Usable file p × (lendable (problem_in file p) T ≡ true) × KindsIn file p ks × In (constraint_of r) (problem_in file p).constraints × TidyIn (constraint_of r) T) where
+module _ (p : accepted.Problem) (ks : List ℕ) (r : Record) (T : List ℕ)
+    (pre : (lendable (the_problem p) T ≡ true) × KindsIn p ks × In (constraint_of r) (the_problem p).constraints × TidyIn (constraint_of r) T) where
   abbrev P : Problem
-  P = problem_in file p
+  P = the_problem p
 
-  sound : Sound (content_of file p)
-  sound = usable-sound file p pre.0 b
+  sound : Sound (content_of p.file.now p.parts)
+  sound = usable-sound p.file.now p.parts p.usable p.bytes
 
   long : length T ≡ width P
-  long = lendable-length P T pre.1
+  long = lendable-length P T pre.0
 
-  strings-are : P.strings ≡ p.s
-  strings-are = (usable-counts file p pre.0).strings
+  strings-are : P.strings ≡ p.parts.s
+  strings-are = (usable-counts p.file.now p.parts p.usable).strings
 
   module _ (c : Constraint) (is : constraint_of r ≡ c) where
     there : In c P.constraints
-    there = subst (λ (d : Constraint). In d P.constraints) is pre.3
+    there = subst (λ (d : Constraint). In d P.constraints) is pre.2
 
     once : repeats (variables c) ≡ false
     once = sound.distinct c there
@@ -79,9 +80,9 @@ module _ (file : List ℕ) (p : Parts) (ks : List ℕ) (r : Record) (T : List �
     number_at n m = sound.well_formed c there (num n) m
 
     tidy-at : (x : ℕ) → In (str x) (variables c) → Tidy (row T x)
-    tidy-at x m = pre.4 x (subst (λ (d : Constraint). In (str x) (variables d)) (sym is) m)
+    tidy-at x m = pre.3 x (subst (λ (d : Constraint). In (str x) (variables d)) (sym is) m)
 
-    of-record : {U : List ℕ} {n : Change} → Narrows P c T U n → Narrows P (constraint_of r) T U n
+    of-record : {U : List ℕ} {n : Option Changed} → Narrows P c T U n → Narrows P (constraint_of r) T U n
     of-record {U} {n} s = subst (λ (d : Constraint). Narrows P d T U n) (sym is) s
 
     -- ---- two strings
@@ -104,7 +105,7 @@ module _ (file : List ℕ) (p : Parts) (ks : List ℕ) (r : Record) (T : List �
           let l = long in
           (omega arith, omega arith, other, tidy-at x first, tidy-at y second)
 
-      two-narrows : {U : List ℕ} {n : Change} → InPlace [] d (x ∷ y ∷ []) [] T U n → Narrows P (constraint_of r) T U n
+      two-narrows : {U : List ℕ} {n : Option Changed} → InPlace [] d (x ∷ y ∷ []) [] T U n → Narrows P (constraint_of r) T U n
       unfolding variables_of alone upto from
       two-narrows {U} {n} s = of-record (narrows P c d [] (x ∷ y ∷ []) []
           (named_kind P c d [] (x ∷ y ∷ []) [] vc vd same (more-below P.strings (string-at x first) (one_below P.strings (string-at y second))) (none_below P.numbers) (two-distinct x y other) tt)
@@ -115,7 +116,7 @@ module _ (file : List ℕ) (p : Parts) (ks : List ℕ) (r : Record) (T : List �
     unfolding constraint_of variables meets
     eq_asks e = two_asks (eq x y) (ap constraint_of e) (eq 0 1) x y refl refl (λ α. refl)
 
-    pub eq-narrows : r ≡ Eq x y → {U : List ℕ} {n : Change} → InPlace [] (eq 0 1) (x ∷ y ∷ []) [] T U n → Narrows P (constraint_of r) T U n
+    pub eq-narrows : r ≡ Eq x y → {U : List ℕ} {n : Option Changed} → InPlace [] (eq 0 1) (x ∷ y ∷ []) [] T U n → Narrows P (constraint_of r) T U n
     unfolding constraint_of variables meets
     eq-narrows e = two-narrows (eq x y) (ap constraint_of e) (eq 0 1) x y refl refl (λ α. refl)
 
@@ -123,7 +124,7 @@ module _ (file : List ℕ) (p : Parts) (ks : List ℕ) (r : Record) (T : List �
     unfolding constraint_of variables meets
     neq_asks e = two_asks (neq x y) (ap constraint_of e) (neq 0 1) x y refl refl (λ α. refl)
 
-    pub neq-narrows : r ≡ Neq x y → {U : List ℕ} {n : Change} → InPlace [] (neq 0 1) (x ∷ y ∷ []) [] T U n → Narrows P (constraint_of r) T U n
+    pub neq-narrows : r ≡ Neq x y → {U : List ℕ} {n : Option Changed} → InPlace [] (neq 0 1) (x ∷ y ∷ []) [] T U n → Narrows P (constraint_of r) T U n
     unfolding constraint_of variables meets
     neq-narrows e = two-narrows (neq x y) (ap constraint_of e) (neq 0 1) x y refl refl (λ α. refl)
 
@@ -131,7 +132,7 @@ module _ (file : List ℕ) (p : Parts) (ks : List ℕ) (r : Record) (T : List �
     unfolding constraint_of variables meets
     rev_asks e = two_asks (rev x y) (ap constraint_of e) (rev 0 1) x y refl refl (λ α. refl)
 
-    pub rev-narrows : r ≡ Rev x y → {U : List ℕ} {n : Change} → InPlace [] (rev 0 1) (x ∷ y ∷ []) [] T U n → Narrows P (constraint_of r) T U n
+    pub rev-narrows : r ≡ Rev x y → {U : List ℕ} {n : Option Changed} → InPlace [] (rev 0 1) (x ∷ y ∷ []) [] T U n → Narrows P (constraint_of r) T U n
     unfolding constraint_of variables meets
     rev-narrows e = two-narrows (rev x y) (ap constraint_of e) (rev 0 1) x y refl refl (λ α. refl)
 
@@ -180,7 +181,7 @@ module _ (file : List ℕ) (p : Parts) (ks : List ℕ) (r : Record) (T : List �
           tidy-z = tidy-at (cat x y z) is-cat z cat-third;
         }
 
-    pub cat-narrows : {U : List ℕ} {n : Change} → InPlace [] (cat 0 1 2) (x ∷ y ∷ z ∷ []) [] T U n → Narrows P (constraint_of r) T U n
+    pub cat-narrows : {U : List ℕ} {n : Option Changed} → InPlace [] (cat 0 1 2) (x ∷ y ∷ z ∷ []) [] T U n → Narrows P (constraint_of r) T U n
     unfolding variables_of alone upto from variables meets
     cat-narrows {U} {n} s =
         let o = cat-others in
@@ -210,7 +211,7 @@ module _ (file : List ℕ) (p : Parts) (ks : List ℕ) (r : Record) (T : List �
     unfolding variables
     sub-other = differ (sym (two-and-number_repeat x y n) ∙ once (sub x y n) is-sub)
 
-    pub sub_asks : (64 * x + 64 ≤ 64 * p.s + n) × (64 * y + 64 ≤ 64 * p.s + n) × (64 * p.s + n < length T) × (y ≢ x) × Tidy (row T x) × Tidy (row T y)
+    pub sub_asks : (64 * x + 64 ≤ 64 * p.parts.s + n) × (64 * y + 64 ≤ 64 * p.parts.s + n) × (64 * p.parts.s + n < length T) × (y ≢ x) × Tidy (row T x) × Tidy (row T y)
     unfolding variables
     sub_asks =
         let t = sub_ranges in
@@ -221,7 +222,7 @@ module _ (file : List ℕ) (p : Parts) (ks : List ℕ) (r : Record) (T : List �
         let q = strings-are in
         (omega arith, omega arith, omega arith, sub-other, tidy-at (sub x y n) is-sub x (Memᴰ.head refl), tidy-at (sub x y n) is-sub y (Memᴰ.tail (Memᴰ.head refl)))
 
-    pub sub-narrows : {U : List ℕ} {k : Change} → InPlace [] (sub 0 1 0) (x ∷ y ∷ []) ((64 * p.s + n) ∷ []) T U k → Narrows P (constraint_of r) T U k
+    pub sub-narrows : {U : List ℕ} {k : Option Changed} → InPlace [] (sub 0 1 0) (x ∷ y ∷ []) ((64 * p.parts.s + n) ∷ []) T U k → Narrows P (constraint_of r) T U k
     unfolding variables_of alone upto from variables meets
     sub-narrows {U} {k} s =
         let t = sub_ranges in
@@ -239,7 +240,7 @@ module _ (file : List ℕ) (p : Parts) (ks : List ℕ) (r : Record) (T : List �
     unfolding variables
     len_ranges = (string-at (len x n) is-len x (Memᴰ.head refl), number_at (len x n) is-len n (Memᴰ.tail (Memᴰ.head refl)))
 
-    pub len_asks : (64 * x + 64 ≤ 64 * p.s + n) × (64 * p.s + n < length T) × Tidy (row T x)
+    pub len_asks : (64 * x + 64 ≤ 64 * p.parts.s + n) × (64 * p.parts.s + n < length T) × Tidy (row T x)
     unfolding variables
     len_asks =
         let t = len_ranges in
@@ -249,7 +250,7 @@ module _ (file : List ℕ) (p : Parts) (ks : List ℕ) (r : Record) (T : List �
         let q = strings-are in
         (omega arith, omega arith, tidy-at (len x n) is-len x (Memᴰ.head refl))
 
-    pub len-narrows : {U : List ℕ} {k : Change} → InPlace [] (len 0 0) (x ∷ []) ((64 * p.s + n) ∷ []) T U k → Narrows P (constraint_of r) T U k
+    pub len-narrows : {U : List ℕ} {k : Option Changed} → InPlace [] (len 0 0) (x ∷ []) ((64 * p.parts.s + n) ∷ []) T U k → Narrows P (constraint_of r) T U k
     unfolding variables_of alone upto from variables meets
     len-narrows {U} {k} s =
         let t = len_ranges in
@@ -264,12 +265,12 @@ module _ (file : List ℕ) (p : Parts) (ks : List ℕ) (r : Record) (T : List �
     unfolding constraint_of
     is-regular = ap constraint_of e
 
-    pub regular_asks : Usable file p × (lendable P T ≡ true) × KindsIn file p ks × (x < p.s) × (i < p.d) × Tidy (row T x)
+    pub regular_asks : (lendable P T ≡ true) × KindsIn p ks × (x < p.parts.s) × (i < p.parts.d) × Tidy (row T x)
     unfolding variables
     regular_asks =
         let f = string-at (regular x i) is-regular x (Memᴰ.head refl) in
         let q = strings-are in
-        (pre.0, pre.1, pre.2, omega arith, usable-machine file p pre.0 x i (there (regular x i) is-regular), tidy-at (regular x i) is-regular x (Memᴰ.head refl))
+        (pre.0, pre.1, omega arith, usable-machine p.file.now p.parts p.usable x i (there (regular x i) is-regular), tidy-at (regular x i) is-regular x (Memᴰ.head refl))
 
-    pub regular-of : {U : List ℕ} {n : Change} → Narrows P (regular x i) T U n → Narrows P (constraint_of r) T U n
+    pub regular-of : {U : List ℕ} {n : Option Changed} → Narrows P (regular x i) T U n → Narrows P (constraint_of r) T U n
     regular-of s = of-record (regular x i) is-regular s

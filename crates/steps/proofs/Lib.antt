@@ -10,3 +10,4 @@ pub mod NamingLaws
 pub mod StepLaws
 pub mod TrimSteps
 pub mod TrimmedLaws
+pub mod KindsInLaws

@@ -1,5 +1,6 @@
 -- A relation's step in place is a step of the whole table: what it makes of the rows and words that it names, it makes of the variables of a problem. One law
 -- for every kind, over the lists of the positions that it names. Assumes nothing.
+use Rattle.std.specs.Prelude.{Option}
 use mathlib.Core.Path.{◌≡◌, refl, sym, ap, subst, ◌∙◌}
 use mathlib.Core.Logic.{◌≢◌}
 use mathlib.Core.Bool.{Bool, true, false, false≢true}
@@ -23,9 +24,9 @@ use Rattle.shortcuts.specs.Waiting.{Unchanged}
 use Rattle.rows.specs.Rows.{alone}
 use Rattle.rows.proofs.Alone.{together}
 use Rattle.rows.proofs.NamedLaws.{Named}
-use Rattle.inplace.specs.declared.Change.{Change}
+use Rattle.inplace.specs.declared.Changed.{Changed}
 use Rattle.inplace.specs.InTable.{Out}
-use Rattle.inplace.specs.InPlace.{InPlace, flag, taken}
+use Rattle.inplace.specs.InPlace.{InPlace, left, flag, taken}
 use Rattle.inplace.proofs.Narrowing.{in_place, in_place-rows}
 use Rattle.steps.specs.Step.{cleared, Narrows}
 use Rattle.steps.proofs.ClearLaws.{cleared-length, cleared-touched, cleared-other}
@@ -51,7 +52,7 @@ num_in (x ∷ xs) ms m (Memᴰ.tail k) = num_in xs ms m k
 -- ---- the step
 
 module _ (P : Problem) (c d : Constraint) (ds : List Automaton) (xs ms : List ℕ) (n : Named P c d ds xs ms) (vc : variables c ≡ map str xs ++ map num ms) (T U : List ℕ) (ln : length T ≡ width P)
-    (r : Change) (s : InPlace ds d xs (map (λ m. 64 * P.strings + m) ms) T U r) where
+    (r : Option Changed) (s : InPlace ds d xs (map (λ m. 64 * P.strings + m) ms) T U r) where
   abbrev at-word : ℕ → ℕ
   at-word m = 64 * P.strings + m
 
@@ -80,7 +81,7 @@ module _ (P : Problem) (c d : Constraint) (ds : List Automaton) (xs ms : List �
   small_same N e = e ∙ ap (λ (l : List ℕ). narrowed (alone (length xs) (length (map at-word ms)) ds) d l) (taken-same T)
       ∙ ap (λ (k : ℕ). narrowed (alone (length xs) k ds) d (together (map (row T) xs) (map (λ m. word T (at-word m)) ms))) lm
 
-  done : r.left ≡ true → U ≡ narrowed P c T
+  done : left r ≡ true → U ≡ narrowed P c T
   done q = in_place P c d ds xs ms n T U ln s.size (sym (taken-same U) ∙ small_same _ (s.done q)) others
 
   -- ---- no choice
@@ -88,7 +89,7 @@ module _ (P : Problem) (c d : Constraint) (ds : List Automaton) (xs ms : List �
   zero_row : (N x : ℕ) → 64 * x + 64 ≤ N → (j : ℕ) → j < 64 → word (row (replicate N 0) x) j ≡ 0
   zero_row N x h j k = row_word (replicate N 0) x j k ∙ get_or-replicate N (64 * x + j) 0 0 (omega arith)
 
-  none : r.left ≡ false → cleared P c U ≡ narrowed P c T
+  none : left r ≡ false → cleared P c U ≡ narrowed P c T
   none q = in_place-rows P c d ds xs ms n T (cleared P c U) ln (cleared-length P c U ∙ s.size) rows values away
     where
       z : replicate (64 * length xs + length (map at-word ms)) 0 ≡ narrowed (alone (length xs) (length ms) ds) d (together (map (row T) xs) (map (λ m. word T (at-word m)) ms))
@@ -157,7 +158,7 @@ module _ (P : Problem) (c d : Constraint) (ds : List Automaton) (xs ms : List �
   word_at : (W : List ℕ) (i : ℕ) → i < length ms → word W (get_or (map at-word ms) i 0) ≡ word W (at-word (get_or ms i 0))
   word_at W i h = ap (word W) (get_d_map at-word ms i 0 0 h)
 
-  unchanged : r.left ≡ true → (i : ℕ) (v : Variable) → i < length (variables c) → get_or (variables c) i (str 0) ≡ v → flag i r ≡ false → Unchanged P T U v
+  unchanged : left r ≡ true → (i : ℕ) (v : Variable) → i < length (variables c) → get_or (variables c) i (str 0) ≡ v → flag i r ≡ false → Unchanged P T U v
   unchanged q i v h e f = go (ltb i (length xs)) refl
     where
       go : (t : Bool) → ltb i (length xs) ≡ t → Unchanged P T U v
@@ -173,7 +174,7 @@ module _ (P : Problem) (c d : Constraint) (ds : List Automaton) (xs ms : List �
           subst (Unchanged P T U) (sym (names-number (i - length xs) j) ∙ ap (λ (y : ℕ). get_or (variables c) y (str 0)) z ∙ e)
           (number-unchanged (get_or ms (i - length xs) 0) (sym (word_at T (i - length xs) j) ∙ eqb-true _ _ b ∙ word_at U (i - length xs) j))
 
-  changed : r.left ≡ true → (i : ℕ) → flag i r ≡ true → U ≢ T
+  changed : left r ≡ true → (i : ℕ) → flag i r ≡ true → U ≢ T
   changed q i f e = go (ltb i (length xs)) (ltb i (length xs + length ms)) refl refl
     where
       go : (t u : Bool) → ltb i (length xs) ≡ t → ltb i (length xs + length ms) ≡ u → ⊥

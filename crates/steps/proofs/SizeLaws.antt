@@ -1,14 +1,15 @@
 -- How many bits a step strikes: as many as the strings and words that it names have fewer. Assumes nothing.
+use Rattle.std.specs.Prelude.{Some}
 use mathlib.Core.Path.{◌≡◌, refl, sym, ap, ap₂, subst, ◌∙◌}
 use mathlib.Core.Logic.{◌≢◌}
-use mathlib.Core.Bool.{Bool, true, false, cond}
+use mathlib.Core.Bool.{Bool, true, false}
 use mathlib.Core.List.Memᴰ
 use mathlib.Core.List.{List, [], ◌∷◌, ◌++◌, map, append-nil}
 use Prim.Native.Nat.{ℕ, suc, ◌+◌, ◌-◌, ◌*◌, ◌≤◌, ◌<◌}
 use native.Mathlib.Omega.{arith}
 use lib.Dec.{eqb, ltb}
-use lib.ListN.{length, get_or, take, drop, set, take-append-drop, drop_of_length-le, length-set}
-use lib.Seq.{drop-cons, drop-drop, set_split, split_at, ext_get_or, get_or-set_same, get_or-set_other}
+use lib.ListN.{length, get_or, take, drop, set, take-append-drop, length-set}
+use lib.Seq.{drop-drop, set_split, split_at, ext_get_or, get_or-set_same, get_or-set_other}
 use borrow.Author.Tests.{eqb-true, eqb-false, ltb-true, ltb-false}
 use Rattle.model.specs.Words.{bits, word, size}
 use Rattle.model.specs.Domains.{row}
@@ -22,38 +23,14 @@ use Rattle.rows.proofs.StoreLaws.{stored-length, row-stored-other, stored-before
 use Rattle.laws.proofs.DomainLaws.{row-length, row_word}
 use Rattle.inplace.specs.InTable.{Out}
 use Rattle.inplace.specs.InPlace.{taken}
-use Rattle.steps.specs.declared.Names.{Names}
+use Rattle.records.specs.declared.names.Names.{Names}
 use Rattle.steps.specs.Step.{Step}
-use Rattle.steps.specs.Names.{texts, numbers, Inside}
-use Rattle.steps.proofs.TidyLaws.{take_next, next-inside}
+use Rattle.steps.specs.Names.{texts, numbers}
+use Rattle.steps.proofs.TidyLaws.{take_next}
 
--- ---- word by word
-
--- n bits in the words up to i, so that those from there on make up all
-pub record Counted (r : List ℕ) (i n : ℕ) : Type 0 where
-  pub rest : n + size (drop i r) ≡ size r
-
-pub count-start : (r : List ℕ) → Counted r 0 0
-count-start r = record { rest = omega arith }
-
-pub count_next : (r : List ℕ) (k i n m : ℕ) → length r ≡ k → i < k → m ≡ length (bits (word r i)) → Counted r i n → Counted r (i + 1) (n + m)
-unfolding size
-count_next r k i n m l h e t =
-    let a = t.rest in
-    let s = ap size (drop-cons r i 0 (omega arith)) in
-    let z : suc i ≡ i + 1 = omega arith in
-    let q = ap (λ (j : ℕ). size (drop j r)) z in
-    record { rest = omega arith }
-
-pub count_small : (r : List ℕ) (k i n : ℕ) → length r ≡ k → Counted r i n → n ≤ 64 * k
-count_small r k i n l t = let a = t.rest in let b = size-most r in omega arith
-
+-- the bits of one word
 pub small_count : (w m : ℕ) → m ≡ length (bits w) → m ≤ 64
 small_count w m e = omega (arith, bits_most w)
-
-pub count-end : (r : List ℕ) (k i n : ℕ) → length r ≡ k → k ≤ i → Counted r i n → n ≡ size r
-unfolding size
-count-end r k i n l h t = let a = t.rest in let g : length r ≤ i = omega arith in let s = ap size (drop_of_length-le r g) in omega arith
 
 -- ---- several
 
@@ -83,40 +60,27 @@ taken-number (x ∷ xs) i T =
     omega arith
 
 -- the loop over the strings that are named: n bits in the first j of them
-pub record Summed (m : Names) (T : List ℕ) (j n : ℕ) : Type 0 where
-  pub sum : n ≡ size (taken (take j m.strings) [] T)
+pub record Summed (xs T : List ℕ) (j n : ℕ) : Type 0 where
+  pub sum : n ≡ size (taken (take j xs) [] T)
   pub small : n ≤ 4096 * j
 
-pub sum-start : (m : Names) (T : List ℕ) → Summed m T 0 0
+pub sum-start : (xs T : List ℕ) → Summed xs T 0 0
 unfolding size
-sum-start m T = record { sum = refl; small = omega arith }
+sum-start xs T = record { sum = refl; small = omega arith }
 
-module _ (m : Names) (T : List ℕ) (f : Inside m T) (l : length m.strings ≡ 3) where
-  pub sum-next : (j n k : ℕ) → j < m.count → k ≡ size (row T (get_or m.strings j 0)) → Summed m T j n → Summed m T (j + 1) (n + k)
-  sum-next j n k h e s =
-      let o = f.most in
-      let a = s.sum in
-      let b = s.small in
-      let z = ap (λ (xs : List ℕ). size (taken xs [] T)) (take_next m.strings j (omega arith)) in
-      let t = taken_next (take j m.strings) (get_or m.strings j 0) T in
-      let i = next-inside m T f l j h in
-      let lr = row-length T (get_or m.strings j 0) i in
-      let w = size-most (row T (get_or m.strings j 0)) in
-      record { sum = omega arith; small = omega arith }
+pub sum-next : (xs T : List ℕ) (j n k : ℕ) → j < length xs → 64 * get_or xs j 0 + 64 ≤ length T → k ≡ size (row T (get_or xs j 0)) → Summed xs T j n → Summed xs T (j + 1) (n + k)
+sum-next xs T j n k h i e s =
+    let a = s.sum in
+    let b = s.small in
+    let z = ap (λ (ys : List ℕ). size (taken ys [] T)) (take_next xs j h) in
+    let t = taken_next (take j xs) (get_or xs j 0) T in
+    let lr = row-length T (get_or xs j 0) i in
+    let w = size-most (row T (get_or xs j 0)) in
+    record { sum = omega arith; small = omega arith }
 
-  module _ (j n : ℕ) (e : j ≡ m.count) (s : Summed m T j n) where
-    pub sum-small : n ≤ 12288
-    sum-small = let o = f.most in let b = s.small in omega arith
-
-    pub sum-end : m.numbered ≡ false → n ≡ size (taken (texts m) (numbers m) T)
-    sum-end q = s.sum ∙ ap (λ (i : ℕ). size (taken (take i m.strings) [] T)) e ∙ ap (λ (is : List ℕ). size (taken (texts m) is T)) (sym (ap (λ (t : Bool). cond t (m.number ∷ []) []) q))
-
-    pub sum-last : m.numbered ≡ true → (k : ℕ) → k ≡ length (bits (word T m.number)) → n + k ≡ size (taken (texts m) (numbers m) T)
-    sum-last q k d =
-        let a = s.sum ∙ ap (λ (i : ℕ). size (taken (take i m.strings) [] T)) e in
-        let b = taken-number (texts m) m.number T in
-        let z = ap (λ (is : List ℕ). size (taken (texts m) is T)) (ap (λ (t : Bool). cond t (m.number ∷ []) []) q) in
-        omega arith
+-- and the number, where there is one
+pub sum-last : (m : Names) (T : List ℕ) (n i : ℕ) → m.number ≡ Some i → n ≡ size (taken (texts m) [] T) → (k : ℕ) → k ≡ length (bits (word T i)) → n + k ≡ size (taken (texts m) (numbers m) T)
+sum-last m T n i q s k d = let b = taken-number (texts m) i T in rw q (omega arith)
 
 -- ---- a table of which only some strings and words differ
 

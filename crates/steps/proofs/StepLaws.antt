@@ -1,4 +1,6 @@
 -- A step on any table of an accepted file: its rows made tidy, narrowed in place, or cleared where no choice is left; and the bits that this strikes. Assumes nothing.
+use Rattle.std.specs.Prelude.{Option, Some, None}
+use Rattle.std.specs.Option.{option_to_list}
 use mathlib.Core.Path.{◌≡◌, refl, sym, ap, subst, ◌∙◌}
 use mathlib.Core.Logic.{◌≢◌}
 use mathlib.Core.Bool.{Bool, true, false, cond, false≢true}
@@ -15,7 +17,6 @@ use Rattle.model.specs.Domains.{Variable, str, num, same_variable}
 use Rattle.model.specs.Constraints.{Problem, Constraint, variables, width}
 use Rattle.model.specs.Solutions.{InRange}
 use Rattle.model.specs.Support.{touches, narrowed}
-use Rattle.model.specs.Layout.{Bytes}
 use Rattle.model.specs.Reading.{repeats}
 use Rattle.laws.specs.Inclusion.{In, Below, Distinct}
 use Rattle.laws.specs.Lent.{lendable}
@@ -25,15 +26,16 @@ use Rattle.laws.proofs.ReadingLaws.{Sound}
 use Rattle.laws.proofs.CallLaws.{lendable-length, lendable-below}
 use Rattle.laws.proofs.SupportLaws.{touched, narrowed-other, narrowed-length, narrowed-below}
 use Rattle.laws.proofs.TableLaws.{size_le}
-use Rattle.layout.specs.declared.Parts.{Parts}
 use Rattle.records.specs.declared.Record.{Record}
 use Rattle.records.specs.Records.{constraint_of}
-use Rattle.format.specs.Accepting.{content_of, problem_in, Usable}
+use Rattle.format.specs.declared.problem.Problem as accepted
+use Rattle.format.specs.Accepting.{content_of}
+use Rattle.format.specs.Problems.{the_problem}
 use Rattle.format.proofs.ContentLaws.{usable-counts, usable-sound}
-use Rattle.inplace.specs.declared.Change.{Change}
+use Rattle.inplace.specs.declared.Changed.{Changed}
 use Rattle.inplace.specs.InTable.{Out}
-use Rattle.inplace.specs.InPlace.{taken}
-use Rattle.steps.specs.declared.Names.{Names}
+use Rattle.inplace.specs.InPlace.{left, taken}
+use Rattle.records.specs.declared.names.Names.{Names}
 use Rattle.steps.specs.Step.{Step, TidyIn, Narrows, Leaves, KindsIn}
 use Rattle.steps.specs.Names.{texts, numbers, Naming, Inside, Tidies, Blanked}
 use Rattle.steps.proofs.NarrowsLaws.{num_in}
@@ -53,28 +55,28 @@ distinct-texts (x ∷ xs) vs e = go (any (same_variable (str x)) (map str xs ++ 
 
 -- ---- a record of a file, on a table that may be lent
 
-module _ (file : List ℕ) (p : Parts) (r : Record) (T : List ℕ) (b : Bytes file) (bd : Words T)
-    (pre : Usable file p × (lendable (problem_in file p) T ≡ true) × In (constraint_of r) (problem_in file p).constraints) (m : Names) (named : Naming p.s (constraint_of r) m) where
+module _ (p : accepted.Problem) (r : Record) (T : List ℕ) (bd : Words T)
+    (pre : (lendable (the_problem p) T ≡ true) × In (constraint_of r) (the_problem p).constraints) (m : Names) (named : Naming p.parts.s (constraint_of r) m) where
   abbrev P : Problem
-  P = problem_in file p
+  P = the_problem p
 
   abbrev c : Constraint
   c = constraint_of r
 
-  sound : Sound (content_of file p)
-  sound = usable-sound file p pre.0 b
+  sound : Sound (content_of p.file.now p.parts)
+  sound = usable-sound p.file.now p.parts p.usable p.bytes
 
   long : length T ≡ width P
-  long = lendable-length P T pre.1
+  long = lendable-length P T pre.0
 
-  strings-are : P.strings ≡ p.s
-  strings-are = (usable-counts file p pre.0).strings
+  strings-are : P.strings ≡ p.parts.s
+  strings-are = (usable-counts p.file.now p.parts p.usable).strings
 
   naming : Naming P.strings c m
   naming = subst (λ (s : ℕ). Naming s c m) (sym strings-are) named
 
   ranged : (v : Variable) → In v (variables c) → InRange P v
-  ranged v k = sound.well_formed c pre.2 v k
+  ranged v k = sound.well_formed c pre.1 v k
 
   text_in : (x : ℕ) → In x (texts m) → In (str x) (variables c)
   text_in x i = named-text named i
@@ -90,7 +92,6 @@ module _ (file : List ℕ) (p : Parts) (r : Record) (T : List ℕ) (b : Bytes fi
 
   pub inside_of : (U : List ℕ) → length U ≡ length T → Inside m U
   inside_of U e = record {
-    most = named.most;
     rows = λ x i. let h : x < P.strings = ranged (str x) (text_in x i) in let l = long in omega arith;
     words = λ i k.
         let t = of_word i k in
@@ -132,17 +133,16 @@ module _ (file : List ℕ) (p : Parts) (r : Record) (T : List ℕ) (b : Bytes fi
   -- ---- the count
 
   plain : (U : List ℕ) → length U ≡ length T → Plain U (numbers m)
-  plain U e = go m.numbered refl
+  plain U e = go m.number refl
     where
-      go : (t : Bool) → m.numbered ≡ t → Plain U (numbers m)
-      go true q = subst (Plain U) (sym (ap (λ (t : Bool). cond t (m.number ∷ []) []) q)) (plain-one U m.number
-          ((inside_of U e).words m.number (subst (λ (l : List ℕ). In m.number l) (sym (ap (λ (t : Bool). cond t (m.number ∷ []) []) q)) (Memᴰ.head refl))))
-      go false q = subst (Plain U) (sym (ap (λ (t : Bool). cond t (m.number ∷ []) []) q)) (plain-none U)
+      go : (o : Option ℕ) → m.number ≡ o → Plain U (option_to_list o)
+      go (Some i) q = plain-one U i ((inside_of U e).words i (rw q (Memᴰ.head refl)))
+      go None q = plain-none U
 
   differs : (U : List ℕ) → U ≡ narrowed P c T → size T + size (taken (texts m) (numbers m) U) ≡ size U + size (taken (texts m) (numbers m) T)
   differs U e =
       let lU : length U ≡ length T = ap length e ∙ narrowed-length P c T in
-      size-differs U (numbers m) (plain U lU) (texts m) (distinct-texts (texts m) (map num named.values) (ap repeats (sym named.names) ∙ sound.distinct c pre.2)) T lU
+      size-differs U (numbers m) (plain U lU) (texts m) (distinct-texts (texts m) (map num named.values) (ap repeats (sym named.names) ∙ sound.distinct c pre.1)) T lU
       step-inside.rows step-inside.past (agrees U e)
 
   module _ (U : List ℕ) (e : U ≡ narrowed P c T) where
@@ -169,16 +169,15 @@ module _ (file : List ℕ) (p : Parts) (r : Record) (T : List ℕ) (b : Bytes fi
     pub any_none : all ≡ false → Leaves P c T T₁ false
     any_none q = record { size = t.size; done = λ z. absurd (false≢true z); none = λ z. t.none q P c long bd ranged text_in ∙ same }
 
-    pub narrow_asks : {ks : List ℕ} → KindsIn file p ks → all ≡ true → Usable file p × (lendable P T₁ ≡ true) × KindsIn file p ks × In c P.constraints × TidyIn c T₁
+    pub narrow_asks : {ks : List ℕ} → KindsIn p ks → all ≡ true → (lendable P T₁ ≡ true) × KindsIn p ks × In c P.constraints × TidyIn c T₁
     narrow_asks ks q = (
-      pre.0,
-      lendable-below P T₁ T (t.below P long (λ x i. ranged (str x) (text_in x i))) pre.1,
+      lendable-below P T₁ T (t.below P long (λ x i. ranged (str x) (text_in x i))) pre.0,
       ks,
-      pre.2,
+      pre.1,
       λ x i. t.tidy q x (text-named named i),
     )
 
-    pub any-narrowed : (U : List ℕ) (a : Change) → Narrows P c T₁ U a → Leaves P c T U a.left
+    pub any-narrowed : (U : List ℕ) (a : Option Changed) → Narrows P c T₁ U a → Leaves P c T U (left a)
     any-narrowed U a s = record { size = s.size ∙ t.size; done = λ q. s.table q ∙ same; none = λ q. s.none q ∙ same }
 
   -- ---- and cleared where no choice is left

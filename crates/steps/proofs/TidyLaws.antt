@@ -4,10 +4,10 @@ use mathlib.Core.Logic.{◌⊎◌, inl, inr, ⊎_elim}
 use mathlib.Core.Bool.{Bool, true, false, false≢true}
 use mathlib.Core.List.Memᴰ
 use mathlib.Core.List.{List, [], ◌∷◌, ◌++◌}
-use Prim.Native.Nat.{ℕ, zero, suc, ◌+◌, ◌*◌, ◌<◌, ◌≤◌}
+use Prim.Native.Nat.{ℕ, suc, ◌+◌, ◌*◌, ◌<◌, ◌≤◌}
 use native.Mathlib.Omega.{arith}
 use lib.Dec.{eqb}
-use lib.ListN.{length, get_or, take}
+use lib.ListN.{length, get_or, take, drop, take-append-drop}
 use lib.Seq.{take-suc}
 use borrow.Author.Tests.{eqb-true, eqb-false}
 use Rattle.model.specs.Words.{bit, word, Words}
@@ -17,6 +17,7 @@ use Rattle.model.specs.Solutions.{InRange}
 use Rattle.model.specs.Support.{narrowed}
 use Rattle.laws.specs.Inclusion.{In, Below}
 use Rattle.laws.specs.Supported.{InRow}
+use Rattle.laws.proofs.ListLaws.{get_or_in}
 use Rattle.laws.proofs.WordLaws.{zero_bit}
 use Rattle.laws.proofs.TableLaws.{below_refl, below_trans}
 use Rattle.laws.proofs.DomainLaws.{row-length, row_words}
@@ -30,7 +31,7 @@ use Rattle.inplace.specs.InTable.{Tidy, Only, Trimmed, zeros}
 use Rattle.inplace.proofs.Tables.{only_out, only-other}
 use Rattle.inplace.proofs.Tidied.{tidied_narrowed}
 use Rattle.steps.specs.Step.{cleared}
-use Rattle.steps.specs.declared.Names.{Names}
+use Rattle.records.specs.declared.names.Names.{Names}
 use Rattle.steps.specs.Names.{texts, Inside, Tidies}
 use Rattle.steps.proofs.ClearLaws.{no-choice}
 
@@ -145,50 +146,40 @@ module _ (xs : List ℕ) (x : ℕ) (T U W : List ℕ) (some : Bool) (f : (y : �
 
 -- ---- the loop over the strings that are named
 
-take_in : (l : List ℕ) (a b : ℕ) {y : ℕ} → a ≤ b → In y (take a l) → In y (take b l)
-take_in l zero b h m = elim m [ ]
-take_in [] (suc a) b h m = elim m [ ]
-take_in (x ∷ l) (suc a) zero h m = absurd (omega arith)
-take_in (x ∷ l) (suc a) (suc b) h (Memᴰ.head e) = Memᴰ.head e
-take_in (x ∷ l) (suc a) (suc b) h (Memᴰ.tail m) = Memᴰ.tail (take_in l a b (omega arith) m)
+in_take : (xs : List ℕ) (j : ℕ) {y : ℕ} → In y (take j xs) → In y xs
+in_take xs j {y} i = subst (In y) (take-append-drop j xs) (Memᴰ.append_left (drop j xs) i)
 
 pub take_next : (l : List ℕ) (j : ℕ) → j < length l → take (j + 1) l ≡ take j l ++ (get_or l j 0 ∷ [])
 take_next l j h = let e : j + 1 ≡ suc j = omega arith in ap (λ (i : ℕ). take i l) e ∙ take-suc l j 0 h
 
-module _ (m : Names) (T : List ℕ) (f : Inside m T) (l : length m.strings ≡ 3) (j : ℕ) (h : j < m.count) where
-  less : j < length m.strings
-  less = let k = f.most in omega arith
-
+module _ (m : Names) (T : List ℕ) (f : Inside m T) {xs : List ℕ} (e : xs ≡ texts m) (j : ℕ) (h : j < length xs) where
   -- the next string is one of those that are named
-  pub next-named : In (get_or m.strings j 0) (texts m)
-  next-named = take_in m.strings (j + 1) m.count (omega arith)
-      (subst (λ (l : List ℕ). In (get_or m.strings j 0) l) (sym (take_next m.strings j less)) (Memᴰ.append_right (take j m.strings) (Memᴰ.head refl)))
+  pub next-named : In (get_or xs j 0) (texts m)
+  next-named = subst (In (get_or xs j 0)) e (get_or_in xs j 0 h)
 
-  pub next-inside : 64 * get_or m.strings j 0 + 64 ≤ length T
-  next-inside = f.rows (get_or m.strings j 0) next-named
+  pub next-inside : 64 * get_or xs j 0 + 64 ≤ length T
+  next-inside = f.rows (get_or xs j 0) next-named
 
-  module _ {U W : List ℕ} {some : Bool} (g : Tidies (take j m.strings) T U true) (t : Trimmed U (get_or m.strings j 0) W some) where
-    after : Tidies (take (j + 1) m.strings) T W some
-    after = subst (λ (xs : List ℕ). Tidies xs T W some) (sym (take_next m.strings j less))
-        (tidies_next (take j m.strings) (get_or m.strings j 0) T U W some (λ y i. f.rows y (take_in m.strings (j + 1) m.count (omega arith)
-        (subst (λ (l : List ℕ). In y l) (sym (take_next m.strings j less)) i))) g t)
+  named-so-far : {y : ℕ} → In y (take (j + 1) xs) → In y (texts m)
+  named-so-far {y} i = subst (In y) e (in_take xs (j + 1) i)
 
-    pub tidies_turn : some ≡ true → Tidies (take (j + 1) m.strings) T W true
-    tidies_turn e = subst (Tidies (take (j + 1) m.strings) T W) e after
+  module _ {U W : List ℕ} {some : Bool} (g : Tidies (take j xs) T U true) (t : Trimmed U (get_or xs j 0) W some) where
+    after : Tidies (take (j + 1) xs) T W some
+    after = subst (λ (ys : List ℕ). Tidies ys T W some) (sym (take_next xs j h))
+        (tidies_next (take j xs) (get_or xs j 0) T U W some (λ y i. f.rows y (named-so-far (subst (In y) (sym (take_next xs j h)) i))) g t)
+
+    pub tidies_turn : some ≡ true → Tidies (take (j + 1) xs) T W true
+    tidies_turn q = subst (Tidies (take (j + 1) xs) T W) q after
 
     -- a row without a value: nothing of the others is looked at
     pub tidies_stop : some ≡ false → Tidies (texts m) T W false
-    tidies_stop e =
+    tidies_stop q =
         let s = after in
-        let wide : (y : ℕ) → In y (take (j + 1) m.strings) → In y (texts m) = λ y i. take_in m.strings (j + 1) m.count (omega arith) i in
         record {
           size = s.size;
-          others = λ k o. s.others k (λ y i. o y (wide y i));
+          others = λ k o. s.others k (λ y i. o y (named-so-far i));
           tidy = λ q. absurd (false≢true q);
-          below = λ P ln r. s.below P ln (λ y i. r y (wide y i));
-          same = λ P c ln r n. s.same P c ln r (λ y i. n y (wide y i));
-          none = λ q P c ln bd r n. s.none e P c ln bd r (λ y i. n y (wide y i));
+          below = λ P ln r. s.below P ln (λ y i. r y (named-so-far i));
+          same = λ P c ln r n. s.same P c ln r (λ y i. n y (named-so-far i));
+          none = λ z P c ln bd r n. s.none q P c ln bd r (λ y i. n y (named-so-far i));
         }
-
-pub tidies_end : (m : Names) (T U : List ℕ) (j : ℕ) → j ≡ m.count → Tidies (take j m.strings) T U true → Tidies (texts m) T U true
-tidies_end m T U j e g = subst (λ (i : ℕ). Tidies (take i m.strings) T U true) e g

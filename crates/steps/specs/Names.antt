@@ -1,5 +1,5 @@
 -- What a constraint names as places of a table: its strings, and the word of its number; and what is made of these places. Assumes nothing.
-use Rattle.std.specs.Prelude.{◌≡◌, ◌≢◌, Bool, true, false, cond, List, [], ◌∷◌, ◌++◌, map, ℕ, ◌+◌, ◌*◌, ◌<◌, ◌≤◌, length, take}
+use Rattle.std.specs.Prelude.{◌≡◌, ◌≢◌, Bool, true, false, List, ◌++◌, map, ℕ, ◌+◌, ◌*◌, ◌<◌, ◌≤◌, length, take}
 use Rattle.model.specs.Words.{word, Words}
 use Rattle.model.specs.Domains.{Variable, str, num, row}
 use Rattle.model.specs.Constraints.{Problem, Constraint, variables, width}
@@ -7,7 +7,8 @@ use Rattle.model.specs.Solutions.{InRange}
 use Rattle.model.specs.Support.{narrowed}
 use Rattle.laws.specs.Inclusion.{In, Below}
 use Rattle.inplace.specs.InTable.{Tidy, Out}
-use Rattle.steps.specs.declared.Names.{Names}
+use Rattle.std.specs.Option.{option_to_list}
+use Rattle.records.specs.declared.names.Names.{Names}
 use Rattle.steps.specs.Step.{cleared}
 
 -- the strings that are named, and the words of numbers
@@ -15,18 +16,16 @@ abbrev pub texts : Names → List ℕ
 texts m = take m.count m.strings
 
 abbrev pub numbers : Names → List ℕ
-numbers m = cond m.numbered (m.number ∷ []) []
+numbers m = option_to_list m.number
 
 -- m is what c names in a table of s strings: strings, then numbers
 pub record Naming (s : ℕ) (c : Constraint) (m : Names) : Type 0 where
-  pub most : m.count ≤ 3
   pub values : List ℕ
   pub words : numbers m ≡ map (λ n. 64 * s + n) values
   pub names : variables c ≡ map str (texts m) ++ map num values
 
 -- they lie inside the table, the words past the rows
 pub record Inside (m : Names) (T : List ℕ) : Type 0 where
-  pub most : m.count ≤ 3
   pub rows : (x : ℕ) → In x (texts m) → 64 * x + 64 ≤ length T
   pub words : (i : ℕ) → In i (numbers m) → i < length T
   pub past : (x : ℕ) → In x (texts m) → (i : ℕ) → In i (numbers m) → 64 * x + 64 ≤ i

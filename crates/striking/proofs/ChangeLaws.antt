@@ -1,4 +1,5 @@
 -- The step of a constraint once its strings are trimmed: whether it struck anything, where a choice is left and where none is. Assumes nothing.
+use Rattle.std.specs.Prelude.{Some, None}
 use mathlib.Core.Path.{◌≡◌, refl, sym, ap, subst, ◌∙◌}
 use mathlib.Core.Logic.{◌≢◌, ⊎_elim}
 use mathlib.Core.Bool.{Bool, true, false, ◌||◌, false≢true}
@@ -16,9 +17,9 @@ use Rattle.laws.proofs.SupportLaws.{narrowed-length, narrowed-below, narrowed-ag
 use Rattle.shortcuts.specs.Waiting.{Unchanged}
 use Rattle.shortcuts.proofs.LocalLaws.{Ranged, narrowed_local, apart-unchanged}
 use Rattle.shortcuts.proofs.RunningLaws.{trimmed-step}
-use Rattle.inplace.specs.declared.Change.{Change}
+use Rattle.inplace.specs.declared.Changed.{Changed}
 use Rattle.inplace.specs.InPlace.{flag}
-use Rattle.steps.specs.declared.Names.{Names}
+use Rattle.records.specs.declared.names.Names.{Names}
 use Rattle.steps.specs.Step.{cleared, Narrows}
 use Rattle.steps.specs.Names.{texts, numbers, Naming, Blanked}
 use Rattle.steps.proofs.ClearLaws.{no-choice, cleared-length, cleared-touched, cleared-other, is-cleared}
@@ -30,19 +31,16 @@ use Rattle.striking.specs.Named.{Known, Trims, Trimming, TrimmedOf, firsts, Hold
 use Rattle.striking.proofs.TrimmingLaws.{strikes_where, between, known-after}
 
 -- a string without a length: nothing is written, and no choice is left
-pub narrows-none : (P : Problem) (c : Constraint) (T : List ℕ) (x : ℕ) → In (str x) (variables c) → word T (64 * x) ≡ 0 → (n : Change) → n.left ≡ false → Narrows P c T T n
-narrows-none P c T x m z n e = record {
+pub narrows-none : (P : Problem) (c : Constraint) (T : List ℕ) (x : ℕ) → In (str x) (variables c) → word T (64 * x) ≡ 0 → Narrows P c T T None
+narrows-none P c T x m z = record {
   size = refl;
   others = λ k u. refl;
-  table = λ q. absurd (never q);
-  tidy = λ q. absurd (never q);
-  unchanged = λ q. absurd (never q);
-  changed = λ q. absurd (never q);
+  table = λ q. absurd (false≢true q);
+  tidy = λ q. absurd (false≢true q);
+  unchanged = λ q. absurd (false≢true q);
+  changed = λ q. absurd (false≢true q);
   none = λ q. no-choice P c T (no_length P c T x m z);
 }
-  where
-    never : n.left ≡ true → ⊥
-    never q = false≢true (sym e ∙ q)
 
 module _ {P : Problem} {c : Constraint} {m : Names} {w : ℕ} {T : List ℕ} (rg : Ranged P c) (naming : Naming P.strings c m) (k : Known P w T) {T₁ : List ℕ} {a : Bool} {v : ℕ}
     (t : Trimming (texts m) T w T₁ a v) where
@@ -71,36 +69,37 @@ module _ {P : Problem} {c : Constraint} {m : Names} {w : ℕ} {T : List ℕ} (rg
         below : Below W T₁
         below = subst (λ (U : List ℕ). Below U T₁) (sym is) (narrowed-below P c T₁)
 
-  module _ {U : List ℕ} {n : Change} (s : Narrows P c T₁ U n) where
-    -- ---- a choice is left: the flags say it
+  -- ---- a choice is left: the flags say it
 
-    module _ (left : n.left ≡ true) {p q : Bool} (e : p ≡ (n.y || n.z)) (f : q ≡ (n.x || p)) where
-      flags : q ≡ false → (i : ℕ) → flag i n ≡ false
-      flags z i = let g = or_false n.x p (sym f ∙ z) in let h = or_false n.y n.z (sym e ∙ g.1) in at i g.0 h.0 h.1
+  module _ {U : List ℕ} {n : Changed} (s : Narrows P c T₁ U (Some n)) where
+    module _ {p q : Bool} (e : p ≡ (n.x || n.y)) (f : q ≡ (p || n.z)) where
+      flags : q ≡ false → (i : ℕ) → flag i (Some n) ≡ false
+      flags z i = let g = or_false p n.z (sym f ∙ z) in let h = or_false n.x n.y (sym e ∙ g.0) in at i h.0 h.1 g.1
         where
-          at : (i : ℕ) → n.x ≡ false → n.y ≡ false → n.z ≡ false → flag i n ≡ false
+          at : (i : ℕ) → n.x ≡ false → n.y ≡ false → n.z ≡ false → flag i (Some n) ≡ false
           at zero x y z = x
           at (suc zero) x y z = y
           at (suc (suc zero)) x y z = z
           at (suc (suc (suc i))) x y z = refl
 
       unflagged : q ≡ false → U ≡ T₁
-      unflagged z = s.table left ∙ narrowed_local P c rg (narrowed P c T₁) T₁ (narrowed-length P c T₁)
+      unflagged z = s.table refl ∙ narrowed_local P c rg (narrowed P c T₁) T₁ (narrowed-length P c T₁)
           (λ i u. sym (apart-unchanged P c c T₁ (λ x l r. same x l) i u)) (narrowed-again P c T₁ trimmed-known.long rg)
         where
           same : (x : Variable) → In x (variables c) → Unchanged P T₁ (narrowed P c T₁) x
           same x l = let g = in_get_or (variables c) (str 0) l in
-              subst (λ (S : List ℕ). Unchanged P T₁ S x) (s.table left) (s.unchanged left g.0 x g.1 g.2 (flags z g.0))
+              subst (λ (S : List ℕ). Unchanged P T₁ S x) (s.table refl) (s.unchanged refl g.0 x g.1 g.2 (flags z g.0))
 
       flagged : q ≡ true → U ≢ T₁
-      flagged z = ⊎_elim (λ x. s.changed left 0 x) (λ r. ⊎_elim (λ y. s.changed left 1 y) (λ u. s.changed left 2 u) (or_true n.y n.z (sym e ∙ r))) (or_true n.x p (sym f ∙ z))
+      flagged z = ⊎_elim (λ r. ⊎_elim (λ x. s.changed refl 0 x) (λ y. s.changed refl 1 y) (or_true n.x n.y (sym e ∙ r))) (λ u. s.changed refl 2 u) (or_true p n.z (sym f ∙ z))
 
       pub strikes_left : {d : Bool} → d ≡ (a || q) → Strikes P c T U d × TrimmedIn P v U
-      strikes_left g = strikes_after (s.table left) unflagged flagged g
+      strikes_left g = strikes_after (s.table refl) unflagged flagged g
 
-    -- ---- none is left: all that is named was struck, which was something just where anything was there
+  -- ---- none is left: all that is named was struck, which was something just where anything was there
 
-    module _ (left : n.left ≡ false) {held : Bool} (h : Holds (firsts (texts m) (numbers m)) T₁ held) {W : List ℕ} (b : Blanked (texts m) (numbers m) U W) where
+  module _ {U : List ℕ} (s : Narrows P c T₁ U None) where
+    module _ {held : Bool} (h : Holds (firsts (texts m) (numbers m)) T₁ held) {W : List ℕ} (b : Blanked (texts m) (numbers m) U W) where
       is-clear : W ≡ cleared P c U
       is-clear = blanked_cleared P c m U W rg naming b
 
@@ -135,4 +134,4 @@ module _ {P : Problem} {c : Constraint} {m : Names} {w : ℕ} {T : List ℕ} (rg
       held-struck q e = let o = h.one q in o.2 (ap (λ (S : List ℕ). word S o.0) (sym e) ∙ gone o.0 o.1)
 
       pub strikes_dead : {d : Bool} → d ≡ (a || held) → Strikes P c T W d × TrimmedIn P v W
-      strikes_dead g = strikes_after (is-clear ∙ s.none left) unheld held-struck g
+      strikes_dead g = strikes_after (is-clear ∙ s.none refl) unheld held-struck g

@@ -1,9 +1,9 @@
 -- Which of the words that a constraint names have a bit: the loops over its strings. Assumes nothing.
 use mathlib.Core.Path.{◌≡◌, refl, sym, ap, subst, ◌∙◌}
 use mathlib.Core.Logic.{◌≢◌, ⊎_elim}
-use mathlib.Core.Bool.{Bool, true, false, not, cond, ◌||◌, false≢true}
+use mathlib.Core.Bool.{Bool, true, false, not, ◌||◌, false≢true}
 use mathlib.Core.List.Memᴰ
-use mathlib.Core.List.{List, [], ◌∷◌, ◌++◌, map, map-append, append-nil}
+use mathlib.Core.List.{List, [], ◌∷◌, ◌++◌, map, map-append}
 use Prim.Native.Nat.{ℕ, ◌+◌, ◌*◌, ◌<◌}
 use native.Mathlib.Omega.{arith}
 use lib.Dec.{eqb}
@@ -11,10 +11,12 @@ use lib.ListN.{length, get_or, take}
 use borrow.Author.Tests.{eqb-true, eqb-false}
 use Rattle.model.specs.Words.{word}
 use Rattle.laws.specs.Inclusion.{In}
-use Rattle.laws.proofs.ListLaws.{not_true, not_false, or_true, or_false}
-use Rattle.steps.specs.declared.Names.{Names}
-use Rattle.steps.specs.Names.{texts, numbers, Inside}
-use Rattle.steps.proofs.TidyLaws.{take_next, next-named}
+use Rattle.laws.proofs.ListLaws.{get_or_in, not_true, not_false, or_true, or_false}
+use Rattle.std.specs.Prelude.{Option, Some}
+use Rattle.std.specs.Option.{option_to_list}
+use Rattle.records.specs.declared.names.Names.{Names}
+use Rattle.steps.specs.Names.{texts, numbers}
+use Rattle.steps.proofs.TidyLaws.{take_next}
 use Rattle.striking.specs.Named.{Lengths, firsts, Holds}
 
 -- ---- lengths
@@ -29,17 +31,12 @@ lengths-next xs x T some g = record { each = λ q y m. ⊎_elim (λ i. g.each re
     last y (Memᴰ.head e) = subst (λ (z : ℕ). 0 < word T (64 * z)) (sym e) (omega arith)
     last y (Memᴰ.tail k) = elim k [ ]
 
-module _ (m : Names) (T : List ℕ) (f : Inside m T) (l : length m.strings ≡ 3) where
-  pub lengths-turn : (j : ℕ) → j < m.count → word T (64 * get_or m.strings j 0) ≢ 0 → Lengths (take j m.strings) T true → Lengths (take (j + 1) m.strings) T true
-  lengths-turn j h some g =
-      let k = f.most in
-      subst (λ (xs : List ℕ). Lengths xs T true) (sym (take_next m.strings j (omega arith))) (lengths-next (take j m.strings) (get_or m.strings j 0) T some g)
+module _ (T : List ℕ) (xs : List ℕ) where
+  pub lengths-turn : (j : ℕ) → j < length xs → word T (64 * get_or xs j 0) ≢ 0 → Lengths (take j xs) T true → Lengths (take (j + 1) xs) T true
+  lengths-turn j h some g = subst (λ (ys : List ℕ). Lengths ys T true) (sym (take_next xs j h)) (lengths-next (take j xs) (get_or xs j 0) T some g)
 
-  pub lengths-stop : (j : ℕ) → j < m.count → word T (64 * get_or m.strings j 0) ≡ 0 → Lengths (texts m) T false
-  lengths-stop j h z = record { each = λ q. absurd (false≢true q); none = λ q. (get_or m.strings j 0, next-named m T f l j h, z) }
-
-  pub lengths-end : (j : ℕ) → j ≡ m.count → Lengths (take j m.strings) T true → Lengths (texts m) T true
-  lengths-end j e g = subst (λ (i : ℕ). Lengths (take i m.strings) T true) e g
+  pub lengths-stop : (j : ℕ) → j < length xs → word T (64 * get_or xs j 0) ≡ 0 → Lengths xs T false
+  lengths-stop j h z = record { each = λ q. absurd (false≢true q); none = λ q. (get_or xs j 0, get_or_in xs j 0 h, z) }
 
 -- ---- anything
 
@@ -65,29 +62,17 @@ holds-next is i T a g = record {
 abbrev at-lengths : List ℕ → List ℕ
 at-lengths xs = map (λ x. 64 * x) xs
 
-module _ (m : Names) (T : List ℕ) (f : Inside m T) (l : length m.strings ≡ 3) where
-  pub holds-turn : (j : ℕ) → j < m.count → {a b : Bool} → Holds (map (λ x. 64 * x) (take j m.strings)) T a → b ≡ (a || not (eqb (word T (64 * get_or m.strings j 0)) 0))
-      → Holds (map (λ x. 64 * x) (take (j + 1) m.strings)) T b
-  holds-turn j h {a} {b} g e =
-      let k = f.most in
-      let q : at-lengths (take (j + 1) m.strings) ≡ at-lengths (take j m.strings) ++ (64 * get_or m.strings j 0 ∷ []) =
-      ap at-lengths (take_next m.strings j (omega arith)) ∙ map-append (λ x. 64 * x) (take j m.strings) (get_or m.strings j 0 ∷ []) in
-      subst (λ (t : Bool). Holds (at-lengths (take (j + 1) m.strings)) T t) (sym e)
-      (subst (λ (is : List ℕ). Holds is T (a || not (eqb (word T (64 * get_or m.strings j 0)) 0))) (sym q)
-      (holds-next (at-lengths (take j m.strings)) (64 * get_or m.strings j 0) T a g))
+pub holds-turn : (T : List ℕ) (xs : List ℕ) (j : ℕ) → j < length xs → {a b : Bool} → Holds (map (λ x. 64 * x) (take j xs)) T a
+    → b ≡ (a || not (eqb (word T (64 * get_or xs j 0)) 0)) → Holds (map (λ x. 64 * x) (take (j + 1) xs)) T b
+holds-turn T xs j h {a} {b} g e =
+    let q : at-lengths (take (j + 1) xs) ≡ at-lengths (take j xs) ++ (64 * get_or xs j 0 ∷ []) =
+    ap at-lengths (take_next xs j h) ∙ map-append (λ x. 64 * x) (take j xs) (get_or xs j 0 ∷ []) in
+    subst (λ (t : Bool). Holds (at-lengths (take (j + 1) xs)) T t) (sym e)
+    (subst (λ (is : List ℕ). Holds is T (a || not (eqb (word T (64 * get_or xs j 0)) 0))) (sym q)
+    (holds-next (at-lengths (take j xs)) (64 * get_or xs j 0) T a g))
 
-  module _ (j : ℕ) (e : j ≡ m.count) {a : Bool} (g : Holds (map (λ x. 64 * x) (take j m.strings)) T a) where
-    all : Holds (at-lengths (texts m)) T a
-    all = subst (λ (i : ℕ). Holds (at-lengths (take i m.strings)) T a) e g
-
-    -- without a number
-    pub holds-end : m.numbered ≡ false → Holds (firsts (texts m) (numbers m)) T a
-    holds-end q =
-        subst (λ (is : List ℕ). Holds (at-lengths (texts m) ++ is) T a) (sym (ap (λ (t : Bool). cond t (m.number ∷ []) []) q))
-        (subst (λ (is : List ℕ). Holds is T a) (sym (append-nil (at-lengths (texts m)))) all)
-
-    -- and with one
-    pub holds-last : m.numbered ≡ true → {b : Bool} → b ≡ (a || not (eqb (word T m.number) 0)) → Holds (firsts (texts m) (numbers m)) T b
-    holds-last q {b} d =
-        subst (λ (is : List ℕ). Holds (at-lengths (texts m) ++ is) T b) (sym (ap (λ (t : Bool). cond t (m.number ∷ []) []) q))
-        (subst (λ (t : Bool). Holds (at-lengths (texts m) ++ (m.number ∷ [])) T t) (sym d) (holds-next (at-lengths (texts m)) m.number T a all))
+module _ (m : Names) (T : List ℕ) {a : Bool} (g : Holds (map (λ x. 64 * x) (texts m)) T a) where
+  -- and with one
+  pub holds-last : {i : ℕ} → m.number ≡ Some i → {b : Bool} → b ≡ (a || not (eqb (word T i) 0)) → Holds (firsts (texts m) (numbers m)) T b
+  holds-last {i} q {b} d = subst (λ (n : Option ℕ). Holds (firsts (texts m) (option_to_list n)) T b) (sym q)
+      (subst (λ (t : Bool). Holds (at-lengths (texts m) ++ (i ∷ [])) T t) (sym d) (holds-next (at-lengths (texts m)) i T a g))

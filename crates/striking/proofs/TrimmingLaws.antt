@@ -23,8 +23,6 @@ use Rattle.shortcuts.proofs.WaitLaws.{ranged-trim}
 use Rattle.shortcuts.proofs.RunningLaws.{trimmed-step}
 use Rattle.inplace.proofs.Tidied.{tidied_narrowed}
 use Rattle.steps.specs.Step.{Step}
-use Rattle.steps.specs.declared.Names.{Names}
-use Rattle.steps.specs.Names.{texts, Inside}
 use Rattle.steps.proofs.TidyLaws.{take_next}
 use Rattle.striking.specs.Strikes.{Strikes, TrimmedIn}
 use Rattle.striking.specs.Named.{Known, Trims, Trimming}
@@ -144,13 +142,7 @@ trimming_next xs x {T} {w} {U} {a} {v} {W} {b} {u} g t = record { trims = next }
         q : Trims P (x ∷ []) U v W b u
         q = t.trims P (known-after k p) (λ y m. h y (Memᴰ.append_right xs m))
 
-module _ (m : Names) (T : List ℕ) (f : Inside m T) (l : length m.strings ≡ 3) (w : ℕ) where
-  pub trimming_turn : (j : ℕ) → j < m.count → {U : List ℕ} {a : Bool} {v : ℕ} {W : List ℕ} {b : Bool} {u : ℕ} {c : Bool} → Trimming (take j m.strings) T w U a v
-      → Trimming (get_or m.strings j 0 ∷ []) U v W b u → c ≡ (a || b) → Trimming (take (j + 1) m.strings) T w W c u
-  trimming_turn j h {U} {a} {v} {W} {b} {u} {c} g t e =
-      let k = f.most in
-      subst (λ (d : Bool). Trimming (take (j + 1) m.strings) T w W d u) (sym e)
-      (subst (λ (xs : List ℕ). Trimming xs T w W (a || b) u) (sym (take_next m.strings j (omega arith))) (trimming_next (take j m.strings) (get_or m.strings j 0) g t))
-
-  pub trimming_end : (j : ℕ) → j ≡ m.count → {U : List ℕ} {a : Bool} {v : ℕ} → Trimming (take j m.strings) T w U a v → Trimming (texts m) T w U a v
-  trimming_end j e {U} {a} {v} g = subst (λ (i : ℕ). Trimming (take i m.strings) T w U a v) e g
+pub trimming_turn : (T : List ℕ) (w : ℕ) (xs : List ℕ) (j : ℕ) → j < length xs → {U : List ℕ} {a : Bool} {v : ℕ} {W : List ℕ} {b : Bool} {u : ℕ} {c : Bool}
+    → Trimming (take j xs) T w U a v → Trimming (get_or xs j 0 ∷ []) U v W b u → c ≡ (a || b) → Trimming (take (j + 1) xs) T w W c u
+trimming_turn T w xs j h {U} {a} {v} {W} {b} {u} {c} g t e = subst (λ (d : Bool). Trimming (take (j + 1) xs) T w W d u) (sym e)
+    (subst (λ (ys : List ℕ). Trimming ys T w W (a || b) u) (sym (take_next xs j h)) (trimming_next (take j xs) (get_or xs j 0) g t))

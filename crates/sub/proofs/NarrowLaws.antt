@@ -1,7 +1,8 @@
 -- The step in place, by what its functions ensure. Assumes nothing.
+use Rattle.std.specs.Prelude.{Some, None}
 use mathlib.Core.Path.{◌≡◌, refl, sym, ap, ap₂, subst, ◌∙◌}
 use mathlib.Core.Logic.{◌≢◌}
-use mathlib.Core.Bool.{Bool, true, false, not}
+use mathlib.Core.Bool.{Bool, not}
 use mathlib.Core.List.{List, [], ◌∷◌, ◌++◌}
 use Prim.Native.Nat.{ℕ, ◌+◌, ◌*◌, ◌≤◌, ◌<◌}
 use native.Mathlib.Omega.{arith}
@@ -13,7 +14,6 @@ use Rattle.model.specs.Domains.{row}
 use Rattle.model.specs.Constraints.{sub}
 use Rattle.words.specs.Ends.{Highest, Lowest}
 use Rattle.laws.proofs.DomainLaws.{row-length, row_words}
-use Rattle.inplace.specs.declared.Change.{Change}
 use Rattle.inplace.specs.InTable.{Tidy, Flag}
 use Rattle.inplace.specs.InPlace.{InPlace}
 use Rattle.inplace.specs.Written.{Replacing, Replaced}
@@ -49,7 +49,7 @@ module _ (T : List ℕ) (bd : Words T) (x y i : ℕ) (fx : 64 * x + 64 ≤ i) (f
     started : Started (row T x) (row T y) (word T i) least tx.top 0 n r
     started = subst (λ (k : ℕ). Started (row T x) (row T y) (word T i) least k 0 n r) is-top s
 
-    pub step-none : n ≡ 0 → (c : Change) → c.left ≡ false → InPlace [] (sub 0 1 0) (x ∷ y ∷ []) (i ∷ []) T T c
+    pub step-none : n ≡ 0 → InPlace [] (sub 0 1 0) (x ∷ y ∷ []) (i ∷ []) T T None
     step-none z = part_none (sub 0 1 0) x y i T T refl (λ k a b d. refl)
         (sub-none (row T x) (row T y) (word T i) (row-length T x (omega arith)) (row-length T y (omega arith)) (row_words T bd x) (row_words T bd y) (bd i) tx
         least low-y n r started z)
@@ -114,7 +114,7 @@ module _ (T : List ℕ) (bd : Words T) (x y i : ℕ) (fx : 64 * x + 64 ≤ i) (f
           new-y : row U y ≡ r
           new-y = row-y ∙ replaced-one T₁ y r T₂ q s.parts.count v
 
-          pub step-done : InPlace [] (sub 0 1 0) (x ∷ y ∷ []) (i ∷ []) T U (record { left = true; x = p; y = q; z = c })
+          pub step-done : InPlace [] (sub 0 1 0) (x ∷ y ∷ []) (i ∷ []) T U (Some (record { x = p; y = q; z = c }))
           step-done = part_left (sub 0 1 0) x y i T U size
               (λ k ox oy d. word_k k d ∙ only_out T₁ y T₂ v.only k oy ∙ only_out T x T₁ w.only k ox)
               (ap₂ (λ (a b : List ℕ). a ++ b) row-x (ap₂ (λ (a : List ℕ) (b : ℕ). a ++ (b ∷ [])) new-y word_i)

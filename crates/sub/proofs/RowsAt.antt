@@ -1,4 +1,5 @@
 -- The two rows of one start: which strings of X, and which of Y, they stand for. Assumes nothing.
+use Rattle.std.specs.Prelude.{min}
 use mathlib.Core.Path.{◌≡◌, refl, sym, ap, subst, ◌∙◌}
 use mathlib.Core.Logic.{◌≢◌}
 use mathlib.Core.Bool.{Bool, true, false, cond, false≢true}
@@ -21,7 +22,7 @@ use Rattle.laws.proofs.RowLaws.{short-of}
 use Rattle.laws.proofs.Supports.{moved-support}
 use Rattle.inplace.specs.InTable.{Tidy}
 use Rattle.inplace.proofs.Tables.{highest-most, bit-some}
-use Rattle.sub.specs.Substrings.{Lesser, Alive, Allowed, Fitting, common}
+use Rattle.sub.specs.Substrings.{Alive, Allowed, Fitting, common}
 use Rattle.inplace.proofs.Parts.{tidy-supports}
 
 -- ---- a word without its bits below n
@@ -182,7 +183,7 @@ module _ (x y : List ℕ) (off least : ℕ) where
 
 -- ---- Y: a string with X's symbols after off, no longer than X allows there
 
-module _ (x y : List ℕ) (off top most lim m : ℕ) (bY : Words y) (high : Highest (word y 0) most) (le : Lesser most (top - off) lim) (near : off ≤ top)
+module _ (x y : List ℕ) (off top most lim m : ℕ) (bY : Words y) (high : Highest (word y 0) most) (le : lim ≡ min most (top - off)) (near : off ≤ top)
     (within : m ≤ lim)
     (filled : (j : ℕ) → j < m → 0 < common x y off j) (stop : m < lim → common x y off m ≡ 0) (ls h : ℕ) (short : ls ≡ bit_and (word y 0) (2 ^ (m + 1) - 1))
     (longest : Highest ls h) where
@@ -240,7 +241,6 @@ module _ (x y : List ℕ) (off top most lim m : ℕ) (bY : Words y) (high : High
       let lb : bit ls (length w) ≡ true = ap (λ (u : ℕ). bit u (length w)) (sym part-first) ∙ i.length-bit in
       let t = of-ls (length w) lb in
       let k = t.1 in
-      let g = le.second in
       let z = highest-most ls h (length w) longest lb in
       let at : (j : ℕ) → j < length w → (bit (word x (suc (off + j))) (get_or w j 0) ≡ true) × (bit (word y (suc j)) (get_or w j 0) ≡ true) = λ j l.
       of-and-bit (word x (suc (off + j))) (word y (suc j)) (get_or w j 0)
@@ -262,7 +262,7 @@ module _ (x y : List ℕ) (off top most lim m : ℕ) (bY : Words y) (high : High
       go both true q =
           let l = ltb-true m (length w) q in
           let s = f.short in
-          let k = le.most (length w) (highest-most (word y 0) most (length w) high f.inside.length-bit) (omega arith) in
+          let k = highest-most (word y 0) most (length w) high f.inside.length-bit in
           let z = stop (omega arith) in
           let p = bit-some (common x y off m) (get_or w m 0) (both m l) in
           absurd (omega arith)

@@ -1,4 +1,5 @@
 -- What the functions of one start, of the starts and of X's row ensure, by what their calls do. Assumes nothing.
+use Rattle.std.specs.Prelude.{min}
 use mathlib.Core.Path.{◌≡◌, refl, sym, ap, ap₂, subst, ◌∙◌}
 use mathlib.Core.Logic.{◌⊎◌, inl, inr, ⊎_elim}
 use mathlib.Core.Bool.{Bool, true, false, ◌||◌, false≢true}
@@ -15,16 +16,16 @@ use Rattle.model.specs.Solutions.{text_bit}
 use Rattle.words.specs.Ends.{Highest, Lowest}
 use Rattle.rows.specs.Parts.{Cut}
 use Rattle.rows.proofs.TrimLaws.{some-bit}
-use Rattle.laws.proofs.WordLaws.{zero_bit, bit-suc, pow_self, pow-only, or-bit-left, or-bit-right, of-or-bit}
+use Rattle.laws.proofs.WordLaws.{zero_bit, bit-suc, pow_self, pow-only, or-bit-left, or-bit-right, of-or-bit, sub_within}
 use Rattle.laws.proofs.ShiftLaws.{and-bit, of-and-bit, bit_mask}
 use Rattle.laws.proofs.DomainLaws.{row_words}
 use Rattle.laws.proofs.Supports.{none-support}
 use Rattle.inplace.specs.InTable.{Ready, Shortened, Changed, Flag, both, Meets}
 use Rattle.inplace.proofs.Tables.{row_first, row-place, highest-most, highest-one, bit-some}
 use Rattle.inplace.proofs.Sides.{Side, side-of, side-ended, side-flag}
-use Rattle.sub.specs.Substrings.{Lesser, Added, Room, Alive, Fitting, Entering, Passing, Entered, Somewhere, Started}
+use Rattle.sub.specs.Substrings.{Room, Alive, Fitting, Entering, Passing, Entered, Somewhere, Started}
 use Rattle.sub.specs.Substrings.{Reaching, Over, Covered, Fixed, Written, Left, Allowed, Wholes, common}
-use Rattle.sub.proofs.Turns.{rest_in, rest_out, write-next}
+use Rattle.sub.proofs.Turns.{Joined, rest_out, write-next}
 use Rattle.sub.proofs.RowsAt.{of-high-bits, in_high-bits, part_row, part-first, part-inside, part-past, part-supports}
 
 -- ---- one start
@@ -34,15 +35,14 @@ module _ (T : List ℕ) (bd : Words T) (x y off least most longest : ℕ) (small
   pub start-past : longest < off + least → Entered (row T x) (row T y) off least longest r r 0
   start-past h = inr (record { dead = λ a. let k = a.far in omega arith; start = refl; same = refl })
 
-  module _ (far : off + least ≤ longest) (lim m : ℕ) (le : Lesser most (longest - off) lim) (met : Meets T (64 * x + off) (64 * y) lim m) where
+  module _ (far : off + least ≤ longest) (lim m : ℕ) (le : lim ≡ min most (longest - off)) (met : Meets T (64 * x + off) (64 * y) lim m) where
     inside : off + lim ≤ longest
-    inside = let k = le.second in let f = far in omega arith
+    inside = let f = far in omega arith
 
     common-word : (j : ℕ) → j < lim → both T (64 * x + off) (64 * y) j ≡ common (row T x) (row T y) off j
     common-word j h =
         let s = room.top.small in
         let q = room.high.small in
-        let k = le.first in
         let i = inside in
         let e : 64 * x + off + j ≡ 64 * x + (off + j) = omega arith in
         ap₂ bit_and (ap (λ (z : ℕ). word T (suc z)) e ∙ sym (row-place T x (off + j) (omega arith))) (sym (row-place T y j (omega arith)))
@@ -51,7 +51,8 @@ module _ (T : List ℕ) (bd : Words T) (x y off least most longest : ℕ) (small
     pub start-short : m < least → Entered (row T x) (row T y) off least longest r r 0
     start-short h =
         let f = far in
-        let k : least ≤ lim = le.most least (highest-most (word (row T y) 0) most least room.high room.low.here) (omega arith) in
+        let g = highest-most (word (row T y) 0) most least room.high room.low.here in
+        let k : least ≤ lim = omega arith in
         inr (record {
           dead = λ a. let z = sym (common-word m (omega arith)) ∙ met.stop (omega arith) in let p = a.filled m h in absurd (omega arith);
           start = refl;
@@ -75,7 +76,7 @@ module _ (T : List ℕ) (bd : Words T) (x y off least most longest : ℕ) (small
           let k = ltb-true h (m + 1) (sym (bit_mask (m + 1) h) ∙ ap (λ (w : ℕ). bit w h) (sym em) ∙ t.1) in
           omega arith
 
-      module _ (h : ℕ) (high : Highest ls h) (lr : length r ≡ 64) (s : List ℕ) (added : Added T (64 * x + off) (64 * y) ls h r s) where
+      module _ (h : ℕ) (high : Highest ls h) (lr : length r ≡ 64) (s : List ℕ) (added : Joined T (64 * x + off) (64 * y) ls h r s) where
         abbrev part : List ℕ
         part = part_row (row T x) (row T y) off longest most lim m (row_words T bd y) room.high le
             (let f = far in omega arith) met.small
@@ -118,27 +119,27 @@ module _ (x y : List ℕ) (n least longest : ℕ) where
     parts = rw e (none-support (Somewhere x y longest 0) text_bit 64 (λ w s. false≢true (sym (zero_bit (suc s.0)) ∙ s.1)));
   }
 
-  module _ (rest found : ℕ) (r : List ℕ) (g : Started x y n least longest rest found r) (off o : ℕ) (low : Lowest rest off) (e : o ≡ 2 ^ off) (s : List ℕ) where
-    entering : (u : ℕ) → Entering x y off least longest r s u → Started x y n least longest (rest - o) (bit_or u found) s
+  module _ (rest found : ℕ) (r : List ℕ) (g : Started x y n least longest rest found r) (off : ℕ) (low : Lowest rest off) (s : List ℕ) where
+    entering : (u : ℕ) → Entering x y off least longest r s u → Started x y n least longest (rest - 2 ^ off) (bit_or found u) s
     entering u h = record {
       sound = λ b k. ⊎_elim
-          (λ q. let d = pow-only (suc off) b (ap (λ (w : ℕ). bit w b) (sym h.start) ∙ q) in (ap (bit n) d ∙ g.coming off low.here, (off, d, h.alive)))
           (λ q. g.sound b q)
-          (of-or-bit u found b k);
+          (λ q. let d = pow-only (suc off) b (ap (λ (w : ℕ). bit w b) (sym h.start) ∙ q) in (ap (bit n) d ∙ g.coming off low.here, (off, d, h.alive)))
+          (of-or-bit found u b k);
       complete = λ z p q a. ⊎_elim
-          (λ d. or-bit-left u found (suc z) (ap₂ bit h.start (ap suc d) ∙ pow_self (suc off)))
-          (λ q. or-bit-right u found (suc z) (g.complete z p q a))
-          (rest_out rest off o low e z q);
-      coming = λ z k. g.coming z (rest_in rest off o low e z k);
+          (λ d. or-bit-right found u (suc z) (ap₂ bit h.start (ap suc d) ∙ pow_self (suc off)))
+          (λ q. or-bit-left found u (suc z) (g.complete z p q a))
+          (rest_out rest off low.here z q);
+      coming = λ z k. g.coming z (sub_within rest off low.here z k);
       parts = record {
         count = h.size;
         sound = λ i b l k. ⊎_elim
-            (λ q. let t = g.parts.sound i b l q in (t.0, (t.1.0, or-bit-right u found (suc t.1.0) t.1.1, t.1.2), t.2))
+            (λ q. let t = g.parts.sound i b l q in (t.0, (t.1.0, or-bit-left found u (suc t.1.0) t.1.1, t.1.2), t.2))
             (λ q. let t = h.right.sound i b l q in (
               t.0,
               (
                 off,
-                or-bit-left u found (suc off)
+                or-bit-right found u (suc off)
                     (ap (λ (w : ℕ). bit w (suc off)) h.start ∙ pow_self (suc off)),
                 t.1,
               ),
@@ -146,24 +147,24 @@ module _ (x y : List ℕ) (n least longest : ℕ) where
             ))
             (of-or-bit (word r i) (word h.row i) b (ap (λ (w : ℕ). bit w b) (sym (h.joined i l)) ∙ k));
         complete = λ i b l v w k. ap (λ (w : ℕ). bit w b) (h.joined i l) ∙ ⊎_elim
+            (λ q. or-bit-left (word r i) (word h.row i) b (g.parts.complete i b l v (w.0, q, w.2) k))
             (λ q. let d = pow-only (suc off) (suc w.0) (ap (λ (z : ℕ). bit z (suc w.0)) (sym h.start) ∙ q) in
             let c : w.0 ≡ off = omega arith in
             or-bit-right (word r i) (word h.row i) b (h.right.complete i b l v (subst (λ (z : ℕ). Fitting x y z longest v) c w.2) k))
-            (λ q. or-bit-left (word r i) (word h.row i) b (g.parts.complete i b l v (w.0, q, w.2) k))
-            (of-or-bit u found (suc w.0) w.1);
+            (of-or-bit found u (suc w.0) w.1);
       };
     }
 
-    passing : (u : ℕ) → Passing x y off least longest r s u → Started x y n least longest (rest - o) (bit_or u found) s
-    passing u h = rw (h.start, h.same) (record {
+    passing : (u : ℕ) → Passing x y off least longest r s u → Started x y n least longest (rest - 2 ^ off) (bit_or found u) s
+    passing u h = rw (h.start, h.same, or_zero_r found) (record {
       sound = g.sound;
       complete = λ z p q a. ⊎_elim (λ d. absurd (h.dead (subst (λ (k : ℕ). Alive x y k least longest) d a))) (λ q. g.complete z p q a)
-          (rest_out rest off o low e z q);
-      coming = λ z k. g.coming z (rest_in rest off o low e z k);
+          (rest_out rest off low.here z q);
+      coming = λ z k. g.coming z (sub_within rest off low.here z k);
       parts = g.parts;
     })
 
-    pub starts-turn : (u : ℕ) → Entered x y off least longest r s u → Started x y n least longest (rest - o) (bit_or u found) s
+    pub starts-turn : (u : ℕ) → Entered x y off least longest r s u → Started x y n least longest (rest - 2 ^ off) (bit_or found u) s
     starts-turn u h = ⊎_elim (entering u) (passing u) h
 
 -- ---- X's places in the part by every start

@@ -3,10 +3,10 @@ use mathlib.Core.Path.{◌≡◌, refl, sym, ap, subst, ◌∙◌}
 use mathlib.Core.Logic.{◌⊎◌, inl, inr, ⊎_elim, ◌≢◌}
 use mathlib.Core.Bool.{Bool, true, false, not, ◌||◌, false≢true}
 use mathlib.Core.List.{List}
-use Prim.Native.Nat.{ℕ, zero, suc, ◌+◌, ◌-◌, ◌/◌, ◌^◌, ◌≤◌, ◌<◌}
+use Prim.Native.Nat.{ℕ, suc, ◌+◌, ◌-◌, ◌/◌, ◌^◌, ◌≤◌, ◌<◌}
 use native.Mathlib.Nat.{le_of_suc-le-suc, eq-or-lt_of_le}
 use native.Mathlib.Omega.{arith}
-use lib.Bits.{bit_and, bit_or}
+use lib.Bits.{bit_or}
 use lib.Dec.{eqb}
 use lib.ListN.{length, set, length-set}
 use lib.Seq.{get_or-set_same, get_or-set_other}
@@ -14,33 +14,20 @@ use borrow.Author.Tests.{eqb-true, eqb-false}
 use Rattle.model.specs.Words.{bit, word}
 use Rattle.words.specs.Ends.{Lowest}
 use Rattle.laws.proofs.ListLaws.{true_and, or_false, or_true, not_false, not_true}
-use Rattle.laws.proofs.WordLaws.{zero_bit, bit-suc, bit_le, bit-sub, sub_within, or-bit-left, or-bit-right, of-or-bit}
+use Rattle.laws.proofs.WordLaws.{zero_bit, bit-suc, bit-sub, sub_within, or-bit-left, or-bit-right, of-or-bit}
 use Rattle.inplace.specs.InTable.{both}
-use Rattle.sub.specs.Substrings.{Added, Over, Written}
+use Rattle.inplace.specs.Adding.{Added}
+use Rattle.sub.specs.Substrings.{Over, Written}
 
 -- ---- a word without its lowest bit
 
-module _ (rest a o : ℕ) (low : Lowest rest a) (e : o ≡ 2 ^ a) where
-  pub rest-less : (o ≤ rest) × (rest - o < rest)
-  rest-less =
-      let k : 2 ^ a ≤ rest = bit_le rest a low.here in
-      let p = power a in
-      (omega arith, omega arith)
-    where
-      power : (a : ℕ) → 0 < 2 ^ a
-      power zero = omega arith
-      power (suc a) = let p = power a in omega arith
-
-  pub rest_in : (i : ℕ) → bit (rest - o) i ≡ true → bit rest i ≡ true
-  rest_in i h = sub_within rest a low.here i (ap (λ (v : ℕ). bit (rest - v) i) (sym e) ∙ h)
-
-  pub rest_out : (i : ℕ) → bit (rest - o) i ≡ false → (i ≡ a) ⊎ (bit rest i ≡ false)
-  rest_out i h = go (eqb a i) refl (bit rest i) refl
-    where
-      go : (t : Bool) → eqb a i ≡ t → (s : Bool) → bit rest i ≡ s → (i ≡ a) ⊎ (bit rest i ≡ false)
-      go true q s p = inl (sym (eqb-true a i q))
-      go false q true p = absurd (false≢true (sym h ∙ ap (λ (v : ℕ). bit (rest - v) i) e ∙ bit-sub rest a i low.here ∙ true_and p (ap not q)))
-      go false q false p = inr p
+pub rest_out : (rest a : ℕ) → bit rest a ≡ true → (i : ℕ) → bit (rest - 2 ^ a) i ≡ false → (i ≡ a) ⊎ (bit rest i ≡ false)
+rest_out rest a here i h = go (eqb a i) refl (bit rest i) refl
+  where
+    go : (t : Bool) → eqb a i ≡ t → (s : Bool) → bit rest i ≡ s → (i ≡ a) ⊎ (bit rest i ≡ false)
+    go true q s p = inl (sym (eqb-true a i q))
+    go false q true p = absurd (false≢true (sym h ∙ bit-sub rest a i here ∙ true_and p (ap not q)))
+    go false q false p = inr p
 
 -- ---- what the starts lay over a place
 
@@ -52,61 +39,40 @@ module _ (T : List ℕ) (b n i : ℕ) where
     coming = λ off e. bit-suc n off ∙ e;
   }
 
-  pub over-turn : (rest w off o v : ℕ) → Over T b n i rest w → Lowest rest off → o ≡ 2 ^ off → v ≡ word T (b + (i - off) + 1)
-      → Over T b n i (rest - o) (bit_or v w)
-  over-turn rest w off o v g low e ev =
+  pub over-turn : (rest w off v : ℕ) → Over T b n i rest w → Lowest rest off → v ≡ word T (b + (i - off) + 1)
+      → Over T b n i (rest - 2 ^ off) (bit_or w v)
+  over-turn rest w off v g low ev =
       let d : b + (i - off) + 1 ≡ suc (b + (i - off)) = omega arith in
       let ew : v ≡ word T (suc (b + (i - off))) = ev ∙ ap (word T) d in
       record {
-        sound = λ a h. ⊎_elim (λ k. (off, g.coming off low.here, ap (λ (u : ℕ). bit u a) (sym ew) ∙ k)) (λ k. g.sound a k) (of-or-bit v w a h);
+        sound = λ a h. ⊎_elim (λ k. g.sound a k) (λ k. (off, g.coming off low.here, ap (λ (u : ℕ). bit u a) (sym ew) ∙ k)) (of-or-bit w v a h);
         complete = λ z a p q h. ⊎_elim
-            (λ k. or-bit-left v w a (ap (λ (u : ℕ). bit u a) ew ∙ subst (λ (u : ℕ). bit (word T (suc (b + (i - u)))) a ≡ true) k h))
-            (λ k. or-bit-right v w a (g.complete z a p k h))
-            (rest_out rest off o low e z q);
-        coming = λ z h. g.coming z (rest_in rest off o low e z h);
+            (λ k. or-bit-right w v a (ap (λ (u : ℕ). bit u a) ew ∙ subst (λ (u : ℕ). bit (word T (suc (b + (i - u)))) a ≡ true) k h))
+            (λ k. or-bit-left w v a (g.complete z a p k h))
+            (rest_out rest off low.here z q);
+        coming = λ z h. g.coming z (sub_within rest off low.here z h);
       }
 
 -- ---- lengths and places added to a row
 
--- the places alone
-pub record Laid (T : List ℕ) (a b i : ℕ) (r s : List ℕ) : Type 0 where
+-- s is the row r with these lengths more, and up to end with what the places after a and after b allow together
+pub record Joined (T : List ℕ) (a b ls end : ℕ) (r s : List ℕ) : Type 0 where
   pub size : length s ≡ length r
-  pub first : word s 0 ≡ word r 0
-  pub inside : (j : ℕ) → j < i → word s (suc j) ≡ bit_or (word r (suc j)) (both T a b j)
-  pub kept : (j : ℕ) → i ≤ j → word s (suc j) ≡ word r (suc j)
+  pub first : word s 0 ≡ bit_or (word r 0) ls
+  pub inside : (i : ℕ) → i < end → word s (suc i) ≡ bit_or (word r (suc i)) (both T a b i)
+  pub kept : (i : ℕ) → end ≤ i → word s (suc i) ≡ word r (suc i)
 
-pub lay_start : (T : List ℕ) (a b : ℕ) (r : List ℕ) → Laid T a b 0 r r
-lay_start T a b r = record { size = refl; first = refl; inside = λ i l. absurd (omega arith); kept = λ i l. refl }
-
-lay_step : (T : List ℕ) (a b i : ℕ) (r s : List ℕ) (w : ℕ) → w ≡ bit_or (word s (suc i)) (both T a b i) → suc i < length s → Laid T a b i r s
-    → Laid T a b (suc i) r (set s (suc i) w)
-lay_step T a b i r s w e l g = record {
-  size = length-set s (suc i) w ∙ g.size;
-  first = get_or-set_other s (suc i) 0 w 0 (omega arith) ∙ g.first;
-  inside = λ j k. ⊎_elim
-      (λ q. subst (λ (z : ℕ). word (set s (suc i) w) (suc z) ≡ bit_or (word r (suc z)) (both T a b z)) (sym q)
-      (get_or-set_same s (suc i) w 0 l ∙ e ∙ ap (λ (u : ℕ). bit_or u (both T a b i)) (g.kept i (omega arith))))
-      (λ q. get_or-set_other s (suc i) (suc j) w 0 (omega arith) ∙ g.inside j q)
-      (eq-or-lt_of_le (le_of_suc-le-suc k));
-  kept = λ j k. get_or-set_other s (suc i) (suc j) w 0 (omega arith) ∙ g.kept j (omega arith);
-}
-
-pub lay_turn : (T : List ℕ) (a b i : ℕ) (r s : List ℕ) → i + 1 < length r → Laid T a b i r s
-    → Laid T a b (i + 1) r (set s (i + 1) (bit_or (word s (i + 1)) (bit_and (word T (a + i + 1)) (word T (b + i + 1)))))
-lay_turn T a b i r s h g =
-    let ei : i + 1 ≡ suc i = omega arith in
-    let ea : a + i + 1 ≡ suc (a + i) = omega arith in
-    let eb : b + i + 1 ≡ suc (b + i) = omega arith in
-    rw (ea, eb, ei) (lay_step T a b i r s _ refl (let e = g.size in omega arith) g)
-
-pub add-end : (T : List ℕ) (a b ls end i : ℕ) (r s : List ℕ) → i ≡ end → 0 < length r → Laid T a b i (set r 0 (bit_or (word r 0) ls)) s → Added T a b ls end r s
-add-end T a b ls end i r s e h g =
-    let old : (j : ℕ) → word (set r 0 (bit_or (word r 0) ls)) (suc j) ≡ word r (suc j) = λ j. get_or-set_other r 0 (suc j) (bit_or (word r 0) ls) 0 (omega arith) in
+pub joined : (T : List ℕ) (a b ls end : ℕ) (r s : List ℕ) → 0 < length r → Added (set r 0 (bit_or (word r 0) ls)) 0 T a b end s → Joined T a b ls end r s
+joined T a b ls end r s h g =
+    let w : ℕ = bit_or (word r 0) ls in
+    let old : (j : ℕ) → word (set r 0 w) (suc j) ≡ word r (suc j) = λ j. get_or-set_other r 0 (suc j) w 0 (omega arith) in
     record {
-      size = g.size ∙ length-set r 0 (bit_or (word r 0) ls);
-      first = g.first ∙ get_or-set_same r 0 (bit_or (word r 0) ls) 0 h;
-      inside = λ j l. g.inside j (omega arith) ∙ ap (λ (u : ℕ). bit_or u (both T a b j)) (old j);
-      kept = λ j l. g.kept j (omega arith) ∙ old j;
+      size = g.size ∙ length-set r 0 w;
+      first = g.first ∙ get_or-set_same r 0 w 0 h;
+      inside = λ j l.
+          let e : 0 + j ≡ j = omega arith in
+          subst (λ (k : ℕ). word s (suc k) ≡ bit_or (word (set r 0 w) (suc k)) (both T a b j)) e (g.done j l) ∙ ap (λ (u : ℕ). bit_or u (both T a b j)) (old j);
+      kept = λ j l. g.after j (omega arith) ∙ old j;
     }
 
 -- ---- places written

@@ -6,26 +6,13 @@ use Rattle.model.specs.Domains.{row}
 use Rattle.model.specs.Solutions.{text_bit}
 use Rattle.words.specs.Ends.{Highest, Lowest}
 use Rattle.laws.specs.Supported.{InRow, Supports}
-use Rattle.inplace.specs.InTable.{Tidy, Only, Changed, Flag, both}
-
--- r is the lesser of a and b
-pub record Lesser (a b r : ℕ) : Type 0 where
-  pub first : r ≤ a
-  pub second : r ≤ b
-  pub most : (l : ℕ) → l ≤ a → l ≤ b → l ≤ r
+use Rattle.inplace.specs.InTable.{Tidy, Only, Changed, Flag}
 
 -- ---- one start
 
 -- what x and y allow together at place j of a part after off symbols
 abbrev pub common : List ℕ → List ℕ → ℕ → ℕ → ℕ
 common x y off j = bit_and (word x (suc (off + j))) (word y (suc j))
-
--- s is the row r with these lengths more, and up to end with what the places after a and after b allow together
-pub record Added (T : List ℕ) (a b ls end : ℕ) (r s : List ℕ) : Type 0 where
-  pub size : length s ≡ length r
-  pub first : word s 0 ≡ bit_or (word r 0) ls
-  pub inside : (i : ℕ) → i < end → word s (suc i) ≡ bit_or (word r (suc i)) (both T a b i)
-  pub kept : (i : ℕ) → end ≤ i → word s (suc i) ≡ word r (suc i)
 
 -- the rows of x and y are there; the least and the greatest length of y, and the greatest of x
 pub record Room (T : List ℕ) (x y least most longest : ℕ) : Type 0 where

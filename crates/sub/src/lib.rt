@@ -9,77 +9,47 @@ ghost use Rattle.model.specs.Domains.{row};
 ghost use Rattle.model.specs.Constraints.{sub};
 ghost use Rattle.inplace.specs.InTable.{Tidy};
 ghost use Rattle.inplace.specs.InPlace.{InPlace};
-ghost use Rattle.sub.specs.Substrings.{Lesser, Added, Room, Entered, Started, Reaching, Over, Covered, Fixed, Written, Left, Wholes};
+ghost use Rattle.sub.specs.Substrings.{Room, Entered, Started, Reaching, Over, Covered, Fixed, Written, Left, Wholes};
 
-// The lesser of two numbers.
-fn lesser(a: usize, b: usize) -> usize
-    ensures { Lesser a b result }
-{
-    if a < b {
-        return a;
-    }
-    b
-}
-
-// Adds these lengths to the row r, and to its places up to end what the places after a and after b allow together.
-fn add(t: &[u64], a: usize, b: usize, ls: u64, end: usize, r: &mut [u64; 64])
-    requires { (length r.old ≡ 64) × (end < 64) × (a + end < length t.now) × (b + end < length t.now) }
-    ensures { Added t.now a b ls end r.old r.new }
-{
-    r[0] = r[0] | ls;
-    let mut i: usize = 0;
-    while i < end {
-        r[i + 1] = r[i + 1] | (t[a + i + 1] & t[b + i + 1]);
-        i += 1;
-    }
-}
-
-// Adds to the row r the parts that start after off symbols; the word of that start, or of none where there is no such part.
-fn at_start(
-    t: &[u64],
-    x: usize,
-    y: usize,
-    off: usize,
+// What bounds a part: the least and the greatest length of Y, and the greatest of X.
+#[derive(Clone, Copy)]
+struct Bounds {
     least: usize,
     most: usize,
     longest: usize,
-    r: &mut [u64; 64],
-) -> u64
-    requires { (length r.old ≡ 64) × (off < 63) × Room t.now x y least most longest }
-    ensures { Entered (row t.now x) (row t.now y) off least longest r.old r.new result }
+}
+
+// Adds to the row r the parts that start after off symbols; the word of that start, or of none where there is no such part.
+fn at_start(t: &[u64], x: usize, y: usize, off: usize, bounds: Bounds, r: &mut [u64; 64]) -> u64
+    requires { (off < 63) × Room t.now x y bounds.least bounds.most bounds.longest }
+    ensures { Entered (row t.now x) (row t.now y) off bounds.least bounds.longest r.old r.new result }
 {
-    if longest < off + least {
+    if bounds.longest < off + bounds.least {
         return 0;
     }
-    let m = inplace::meets(t, 64 * x + off, 64 * y, lesser(most, longest - off));
-    if m < least {
+    let m = inplace::meets(
+        t,
+        64 * x + off,
+        64 * y,
+        bounds.most.min(bounds.longest - off),
+    );
+    if m < bounds.least {
         return 0;
     }
     let ls = t[64 * y] & words::low_mask(m);
-    add(t, 64 * x + off, 64 * y, ls, words::highest(ls), r);
+    r[0] |= ls;
+    inplace::add(r, 0, t, 64 * x + off, 64 * y, words::highest(ls));
     words::singleton(off + 1)
 }
 
 // The starts of n that are left, and in the row r, which is empty before, all parts that start there.
-fn starts(
-    t: &[u64],
-    x: usize,
-    y: usize,
-    n: u64,
-    least: usize,
-    most: usize,
-    longest: usize,
-    r: &mut [u64; 64],
-) -> u64
-    requires { Room t.now x y least most longest × (r.old ≡ replicate 64 0) }
-    ensures { Started (row t.now x) (row t.now y) n least longest 0 result r.new }
+fn starts(t: &[u64], x: usize, y: usize, n: u64, bounds: Bounds, r: &mut [u64; 64]) -> u64
+    requires { Room t.now x y bounds.least bounds.most bounds.longest × (r.old ≡ replicate 64 0) }
+    ensures { Started (row t.now x) (row t.now y) n bounds.least bounds.longest 0 result r.new }
 {
-    let mut rest = n >> 1;
-    let mut found: u64 = 0;
-    while rest != 0 {
-        let off = words::lowest(rest);
-        found = at_start(t, x, y, off, least, most, longest, r) | found;
-        rest -= words::singleton(off);
+    let mut found = 0;
+    for off in words::each_bit(n >> 1) {
+        found |= at_start(t, x, y, off, bounds, r);
     }
     found
 }
@@ -89,12 +59,9 @@ fn over(t: &[u64], b: usize, n: u64, i: usize) -> u64
     requires { Reaching (length t.now) b n i }
     ensures { Over t.now b n i 0 result }
 {
-    let mut rest = n >> 1;
-    let mut w: u64 = 0;
-    while rest != 0 {
-        let off = words::lowest(rest);
-        w = t[b + (i - off) + 1] | w;
-        rest -= words::singleton(off);
+    let mut w = 0;
+    for off in words::each_bit(n >> 1) {
+        w |= t[b + (i - off) + 1];
     }
     w
 }
@@ -105,11 +72,9 @@ fn fix(t: &mut [u64], x: usize, y: usize, n: u64, from: usize, to: usize) -> boo
     ensures { Written (Fixed (row t.old x) (row t.old y) n) t.old (64 * x) from to to t.new result }
 {
     let mut changed = false;
-    let mut i = from;
-    while i < to {
+    for i in from..to {
         let w = t[64 * x + i + 1] & over(t, 64 * y, n, i);
-        changed = inplace::either(changed, inplace::put(t, 64 * x + i + 1, w));
-        i += 1;
+        changed |= inplace::put(t, 64 * x + i + 1, w);
     }
     changed
 }
@@ -122,32 +87,29 @@ fn wholes(t: &mut [u64], x: usize, y: usize, n: u64, least: usize) -> bool
     let first = words::lowest(n) - 1;
     let end = first + least;
     let ls = (t[64 * x] >> end) << end;
-    let p = fix(t, x, y, n, words::highest(n) - 1, end);
-    let q = inplace::shorten(t, x, ls);
-    inplace::either(p, q)
+    let mut changed = fix(t, x, y, n, words::highest(n) - 1, end);
+    changed |= inplace::shorten(t, x, ls);
+    changed
 }
 
-// One narrowing step in place; word i is N's.
-pub fn narrow(t: &mut [u64], x: usize, y: usize, i: usize) -> inplace::Change
+// One narrowing step in place; word i is N's. Rows by their positions, as in crates/eq.
+pub fn narrow(t: &mut [u64], x: usize, y: usize, i: usize) -> Option<inplace::Changed>
     requires { (64 * x + 64 ≤ i) × (64 * y + 64 ≤ i) × (i < length t.old) × (y ≢ x) × Tidy (row t.old x) × Tidy (row t.old y) }
     ensures { InPlace [] (sub 0 1 0) (x ∷ y ∷ []) (i ∷ []) t.old t.new result }
 {
-    let least = words::lowest(t[64 * y]);
-    let most = words::highest(t[64 * y]);
-    let longest = words::highest(t[64 * x]);
-    let old = t[i];
+    let bounds = Bounds {
+        least: words::lowest(t[64 * y]),
+        most: words::highest(t[64 * y]),
+        longest: words::highest(t[64 * x]),
+    };
     let mut r = [0u64; 64];
-    let n = starts(t, x, y, old, least, most, longest, &mut r);
+    let n = starts(t, x, y, t[i], bounds, &mut r);
     if n == 0 {
-        return inplace::nothing();
+        return None;
     }
-    let p = wholes(t, x, y, n, least);
-    let q = inplace::replace(t, y, &r, 0);
-    let z = inplace::put(t, i, n);
-    inplace::Change {
-        left: true,
-        x: p,
-        y: q,
-        z,
-    }
+    Some(inplace::Changed {
+        x: wholes(t, x, y, n, bounds.least),
+        y: inplace::replace(t, y, &r, 0),
+        z: inplace::put(t, i, n),
+    })
 }

@@ -1,10 +1,10 @@
 -- Refusals 6 and 10: testing every word i below 64 s, length words aside, is `symbols_below`. Assumes nothing.
 use mathlib.Core.Path.{◌≡◌, refl, sym, ap, ◌∙◌}
-use mathlib.Core.Bool.{Bool, true, false, not, false≢true}
+use mathlib.Core.Bool.{Bool, true, false, false≢true}
 use mathlib.Core.List.{List}
 use Prim.Native.Nat.{ℕ, ◌+◌, ◌*◌, ◌/◌, ◌%◌, ◌<◌}
 use native.Mathlib.Omega.{arith}
-use borrow.Author.Tests.{eq-eqb, ne_eqb, not-false}
+use borrow.Author.Tests.{eq-eqb, ne_eqb}
 use borrow.Author.Count.{below_more}
 use Rattle.model.specs.Lists.{from, upto}
 use Rattle.model.specs.Words.{word, none_from}
@@ -24,30 +24,30 @@ symbol-word-low k i w n = rw (ne_eqb (i % 64) 0 n)
 
 -- ---- the words of s rows, one after the other
 
--- f's words before i have passed the test
-pub record LowTo (k : ℕ) (f : ℕ → ℕ) (i : ℕ) : Type 0 where
-  pub passed : (j : ℕ) → j < i → low_at k j (f j) ≡ true
+-- the words of T before word i have passed the test
+pub record LowTo (k : ℕ) (T : List ℕ) (i : ℕ) : Type 0 where
+  pub passed : (j : ℕ) → j < i → low_at k j (word T j) ≡ true
 
-pub low-start : (k : ℕ) (f : ℕ → ℕ) → LowTo k f 0
-low-start k f = record { passed = λ j h. absurd (omega arith) }
+pub low-start : (k : ℕ) (T : List ℕ) → LowTo k T 0
+low-start k T = record { passed = λ j h. absurd (omega arith) }
 
 -- a turn whose word w passes
-pub low_step : (k : ℕ) (f : ℕ → ℕ) (i : ℕ) (w : ℕ) (r : Bool) → LowTo k f i → w ≡ f i → r ≡ low_at k i w → not r ≡ false → LowTo k f (i + 1)
-low_step k f i w r l e q n = record { passed = below_more _ _ l.passed (ap (low_at k i) (sym e) ∙ sym q ∙ not-false r n) }
+pub low_step : (k : ℕ) (T : List ℕ) (i : ℕ) (w : ℕ) (r : Bool) → LowTo k T i → w ≡ word T i → r ≡ low_at k i w → r ≡ true → LowTo k T (i + 1)
+low_step k T i w r l e q n = record { passed = below_more _ _ l.passed (ap (low_at k i) (sym e) ∙ sym q ∙ n) }
 
-module _ (k s : ℕ) (T : List ℕ) (f : ℕ → ℕ) (same : (i : ℕ) → i < 64 * s → f i ≡ word T i) where
+module _ (k s : ℕ) (T : List ℕ) where
   -- every word has passed
-  pub all-low : LowTo k f (64 * s) → symbols_below k s T ≡ true
+  pub all-low : LowTo k T (64 * s) → symbols_below k s T ≡ true
   unfolding symbols_below
   all-low l = in_all _ (upto s) (λ x m. in_all _ (from 1 63) (λ p n.
       let a = of-upto s m in
       let b = of-from 1 63 n in
       let h : 64 * x + p < 64 * s = omega arith in
-      let e = symbol-word-low k (64 * x + p) (f (64 * x + p)) (λ z. omega arith) in
-      ap (none_from k) (sym (same (64 * x + p) h)) ∙ sym e ∙ l.passed (64 * x + p) h))
+      let e = symbol-word-low k (64 * x + p) (word T (64 * x + p)) (λ z. omega arith) in
+      sym e ∙ l.passed (64 * x + p) h))
 
   -- some word w has not
-  pub some-high : (i : ℕ) (w : ℕ) (r : Bool) → i < 64 * s → w ≡ f i → r ≡ low_at k i w → r ≡ false → symbols_below k s T ≡ false
+  pub some-high : (i : ℕ) (w : ℕ) (r : Bool) → i < 64 * s → w ≡ word T i → r ≡ low_at k i w → r ≡ false → symbols_below k s T ≡ false
   unfolding symbols_below
   some-high i w r h e q n = go (symbols_below k s T) refl
     where
@@ -62,5 +62,5 @@ module _ (k s : ℕ) (T : List ℕ) (f : ℕ → ℕ) (same : (i : ℕ) → i < 
           let at : 64 * (i / 64) + i % 64 ≡ i = omega arith in
           let row = of-all _ l (in_upto s (i / 64) (omega arith)) in
           let low = of-all _ row (in_from 1 63 (i % 64) (omega (arith, place)) (omega arith)) in
-          absurd (false≢true (sym high ∙ symbol-word-low k i w place ∙ ap (none_from k) (e ∙ same i h ∙ ap (word T) (sym at)) ∙ low))
+          absurd (false≢true (sym high ∙ symbol-word-low k i w place ∙ ap (none_from k) (e ∙ ap (word T) (sym at)) ∙ low))
       go false l = refl

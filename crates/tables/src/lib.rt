@@ -4,36 +4,43 @@
 
 #![tactic(auto)]
 
-ghost use Rattle.std.specs.Prelude.{◌≡◌, map, ℕ, ◌≤◌, ◌+◌, ◌*◌, length};
+ghost use Rattle.std.specs.Prelude.{◌≡◌, List, map, ℕ, ◌<◌, ◌≤◌, ◌+◌, ◌*◌, length};
 ghost use Rattle.model.specs.Layout.{little};
 ghost use Rattle.model.specs.Reading.{pieces, symbols_below};
-ghost use Rattle.tables.specs.Low.{low_at};
+ghost use Rattle.tables.specs.Low.{low_at, Gives};
 
 // Whether w may stand as word i of a string's row: a length word always may.
+#[tactic(auto, unfolding(crate::specs::Low::low_at))]
 fn low_at(w: u64, i: usize, k: usize) -> bool
     requires { (1 ≤ k) × (k ≤ 64) }
     ensures { result ≡ low_at k i w }
 {
-    if i % 64 == 0 {
-        return true;
-    }
-    words::none_from(w, k)
+    i % 64 == 0 || words::none_from(w, k)
 }
+
+// Whether no symbol word of s rows has a bit at k or above, where `word` gives the words of the rows, one after the other.
+fn rows_low<F: Fn(usize) -> u64>(k: usize, s: usize, word: F) -> bool
+    requires counts { (1 ≤ k) × (k ≤ 64) × (s ≤ 16) }
+    requires words { (i : ℕ) → i < 64 * s → F.pre word i }
+    ensures { (T : List ℕ) → Gives (F.post word) (64 * s) T → result ≡ symbols_below k s T }
+{
+    let end = 64 * s; // number words stand from here on
+    for i in 0..end {
+        if !low_at(word(i), i, k) {
+            return false;
+        }
+    }
+    true
+}
+
+// k and s come as two numbers to both tests, and not as a file's parts: this crate knows words and no layout, and of the parts it would ask what these two say.
 
 // Refusal 6: whether no symbol word of the file's table, of s rows and any count t of number words, has a bit at k or above.
 pub fn file_low(bytes: &[u8], k: usize, s: usize) -> bool
     requires { (1 ≤ k) × (k ≤ 64) × (s ≤ 16) × (8 * (64 * s) ≤ length bytes.now) }
     ensures { (t : ℕ) → result ≡ symbols_below k s (map little (pieces (64 * s + t) 8 bytes.now)) }
 {
-    let end = 64 * s; // number words stand from here on
-    let mut i: usize = 0;
-    while i < end {
-        if !low_at(little::eight(bytes, 8 * i), i, k) {
-            return false;
-        }
-        i += 1;
-    }
-    true
+    rows_low(k, s, |i| little::eight(bytes, 8 * i))
 }
 
 // Refusal 10: the same of a lent table.
@@ -41,15 +48,7 @@ pub fn table_low(table: &[u64], k: usize, s: usize) -> bool
     requires { (1 ≤ k) × (k ≤ 64) × (s ≤ 16) × (64 * s ≤ length table.now) }
     ensures { result ≡ symbols_below k s table.now }
 {
-    let end = 64 * s;
-    let mut i: usize = 0;
-    while i < end {
-        if !low_at(table[i], i, k) {
-            return false;
-        }
-        i += 1;
-    }
-    true
+    rows_low(k, s, |i| table[i])
 }
 
 // The file's table, word by word, into the lent one.
@@ -57,10 +56,7 @@ pub fn unpack(bytes: &[u8], table: &mut [u64])
     requires { length bytes.now ≡ 8 * length table.old }
     ensures { table.new ≡ map little (pieces (length table.old) 8 bytes.now) }
 {
-    let n = table.len();
-    let mut i: usize = 0;
-    while i < n {
-        table[i] = little::eight(bytes, 8 * i);
-        i += 1;
+    for (i, word) in table.iter_mut().enumerate() {
+        *word = little::eight(bytes, 8 * i);
     }
 }

@@ -1,10 +1,10 @@
 -- How a table is made ready, from what the functions that make rows tidy and look up say. Assumes nothing.
+use Rattle.std.specs.Prelude.{Option, Some, None}
+use Rattle.std.proofs.lemmas.Option.{none-some, same_Some}
 use mathlib.Core.Path.{◌≡◌, refl, sym, ap, subst, ◌∙◌}
-use mathlib.Core.Logic.{◌≢◌, ⊎_elim}
 use mathlib.Core.Bool.{Bool, true, false, false≢true}
 use mathlib.Core.List.{List}
 use Prim.Native.Nat.{ℕ, suc, ◌+◌, ◌-◌, ◌*◌, ◌/◌, ◌≤◌, ◌<◌}
-use native.Mathlib.Nat.{eq-or-lt_of_le}
 use native.Mathlib.Omega.{arith}
 use lib.Dec.{ltb}
 use lib.ListN.{length}
@@ -17,7 +17,7 @@ use Rattle.model.specs.Support.{narrowed}
 use Rattle.model.specs.Rounds.{every_value, settled}
 use Rattle.laws.proofs.RoundLaws.{settled-below, settled-stable}
 use Rattle.laws.proofs.DomainLaws.{row-length}
-use Rattle.shortcuts.specs.Waiting.{Trimming, Begun}
+use Rattle.shortcuts.specs.Waiting.{Trimming}
 use Rattle.shortcuts.proofs.WaitLaws.{in_trims, above_step}
 use Rattle.shortcuts.proofs.RunningLaws.{trim_start, trim-next, dead-below, dead-length}
 use Rattle.rows.specs.Rows.{trimmed}
@@ -27,10 +27,11 @@ use Rattle.inplace.proofs.Tidied.{trim-placed}
 use Rattle.inplace.specs.InTable.{Trimmed}
 use Rattle.inplace.proofs.Tables.{row_first}
 use Rattle.layout.specs.declared.Parts.{Parts}
-use Rattle.index.specs.Index.{position, Index}
+use Rattle.rounds.proofs.ValueLaws.{Looked}
+use Rattle.index.specs.Index.{position, Marked}
 use Rattle.index.proofs.WakingLaws.{touching_wakes, touching-inside}
 use Rattle.waiting.specs.Turns.{Pending}
-use Rattle.waiting.specs.Beginnings.{Trims, Readies, Wakes, Lengths}
+use Rattle.waiting.specs.Beginnings.{ChildAt, Trims, Readies, Wakes, Lengths}
 use Rattle.waiting.proofs.StartLaws.{start-whole, start-text, start-number}
 
 -- ---- one row
@@ -94,37 +95,41 @@ trims-end {s} {T} {U} x e g = record { same_length = g.same_length; done = λ q 
 
 -- ---- the three ways to make a table ready
 
-module _ (s k : ℕ) (T : List ℕ) where
-  pub ready-whole : length T ≤ k → {U : List ℕ} {all : Bool} → Trims s T U all → Readies s k T U all
-  ready-whole h t = record {
+module _ (s : ℕ) (T : List ℕ) where
+  pub ready-whole : (from : Option ℕ) → from ≡ None → {U : List ℕ} {all : Bool} → Trims s T U all → Readies s from T U all
+  ready-whole from e t = record {
     same_length = t.same_length;
-    whole = λ q l. t.done q;
-    text = λ q l. absurd (omega arith);
-    number = λ q l. absurd (omega arith);
+    whole = λ q z. t.done q;
+    text = λ q k z. absurd (none-some k (sym e ∙ z));
+    number = λ q k z. absurd (none-some k (sym e ∙ z));
     dead = t.dead;
   }
 
-  pub ready-text : k < length T → k < 64 * s → 64 * s ≤ length T → {U : List ℕ} {some : Bool} → Trimmed T (k / 64) U some → Readies s k T U some
-  ready-text l h f {U} {some} t = record {
-    same_length = tidied_length T (k / 64) (omega arith) t;
-    whole = λ q z. absurd (omega arith);
-    text = λ q z y P e ln. tidied_step T (k / 64) (omega arith) t q P ln (omega arith);
-    number = λ q z y. absurd (omega arith);
-    dead = λ q P e ln bd.
-        let i : k / 64 < P.strings = omega arith in
-        dead-below P (settled P T) (narrowed P (always (k / 64)) T)
-        (above_step P (settled P T) T (always (k / 64)) (in_trims P (k / 64) i) (settled-stable P T bd) (settled-below P T))
-        (tidied_none T (k / 64) (omega arith) t q P ln i);
-  }
+  module _ (from : Option ℕ) (k : ℕ) (e : from ≡ Some k) where
+    same : (l : ℕ) → from ≡ Some l → k ≡ l
+    same l z = same_Some k l (sym e ∙ z)
 
-  pub ready-number : k < length T → 64 * s ≤ k → Readies s k T T true
-  ready-number l h = record {
-    same_length = refl;
-    whole = λ q z. absurd (omega arith);
-    text = λ q z y. absurd (omega arith);
-    number = λ q z y. refl;
-    dead = λ q. absurd (false≢true (sym q));
-  }
+    pub ready-text : k < 64 * s → 64 * s ≤ length T → {U : List ℕ} {some : Bool} → Trimmed T (k / 64) U some → Readies s from T U some
+    ready-text h f {U} {some} t = record {
+      same_length = tidied_length T (k / 64) (omega arith) t;
+      whole = λ q z. absurd (none-some k (sym z ∙ e));
+      text = λ q l z y P w ln. subst (λ (x : ℕ). U ≡ narrowed P (always (x / 64)) T) (same l z) (tidied_step T (k / 64) (omega arith) t q P ln (omega arith));
+      number = λ q l z y. absurd (omega (arith, same l z));
+      dead = λ q P w ln bd.
+          let i : k / 64 < P.strings = omega arith in
+          dead-below P (settled P T) (narrowed P (always (k / 64)) T)
+          (above_step P (settled P T) T (always (k / 64)) (in_trims P (k / 64) i) (settled-stable P T bd) (settled-below P T))
+          (tidied_none T (k / 64) (omega arith) t q P ln i);
+    }
+
+    pub ready-number : 64 * s ≤ k → Readies s from T T true
+    ready-number h = record {
+      same_length = refl;
+      whole = λ q z. absurd (none-some k (sym z ∙ e));
+      text = λ q l z y. absurd (omega (arith, same l z));
+      number = λ q l z y. refl;
+      dead = λ q. absurd (false≢true (sym q));
+    }
 
 -- ---- what waits then
 
@@ -136,49 +141,37 @@ owner-number : (s k : ℕ) → 64 * s ≤ k → owner s k ≡ num (k - 64 * s)
 unfolding owner
 owner-number s k h = rw (le-ltb k (64 * s) h)
 
-pub wakes_all : {p : Parts} {ix : List ℕ} {n k w : ℕ} → n ≤ k → ((j : ℕ) → bit w j ≡ true → j < p.c) × ((j : ℕ) → j < p.c → bit w j ≡ true) → Wakes p ix n k w
-wakes_all h a = record { all = λ l. a; named = λ l. absurd (omega arith) }
+pub wakes_all : {p : Parts} {ix : List ℕ} {from : Option ℕ} {w : ℕ} → from ≡ None → ((j : ℕ) → bit w j ≡ true → j < p.c) × ((j : ℕ) → j < p.c → bit w j ≡ true) → Wakes p ix from w
+wakes_all e a = record { all = λ l. a; named = λ k l. absurd (none-some k (sym e ∙ l)) }
 
-pub wakes_named : {p : Parts} {ix : List ℕ} {n k w : ℕ} → k < n → w ≡ word ix (position p.s (owner p.s k)) → Wakes p ix n k w
-wakes_named h e = record { all = λ l. absurd (omega arith); named = λ l. e }
+pub wakes_named : {p : Parts} {ix : List ℕ} {from : Option ℕ} {k w : ℕ} → from ≡ Some k → w ≡ word ix (position p.s (owner p.s k)) → Wakes p ix from w
+wakes_named {p} {ix} {from} {k} {w} q e = record {
+  all = λ l. absurd (none-some k (sym l ∙ q));
+  named = λ n l. subst (λ (x : ℕ). w ≡ word ix (position p.s (owner p.s x))) (same_Some k n (sym q ∙ l)) e;
+}
 
-module _ (p : Parts) (ix : List ℕ) (k : ℕ) (T : List ℕ) (P : Problem) (wf : WellFormed P) (es : P.strings ≡ p.s) (ec : length P.constraints ≡ p.c) (ln : length T ≡ width P) (bd : Words T)
-    (n : Index P ix) (child : Begun P T k) {U : List ℕ} (r : Readies p.s k T U true) {w : ℕ} (v : Wakes p ix (length T) k w) where
-  named : k < length T → w ≡ word ix (position P.strings (owner P.strings k))
-  named l = subst (λ (s : ℕ). w ≡ word ix (position s (owner s k))) (sym es) (v.named l)
-
+module _ (p : Parts) (ix : List ℕ) (T : List ℕ) (P : Problem) (wf : WellFormed P) (es : P.strings ≡ p.s) (ec : length P.constraints ≡ p.c) (ln : length T ≡ width P) (bd : Words T)
+    (n : Marked P ix) {U : List ℕ} {w : ℕ} where
   -- the table is on its way from T to what T settles to
-  pub ready_pending : Pending P T U w
-  ready_pending = go (ltb k (length T)) (ltb k (64 * p.s)) refl refl
+  pub ready_pending : (from : Option ℕ) → ChildAt P T from → Readies p.s from T U true → Wakes p ix from w → Pending P T U w
+  ready_pending None child r v = start-whole P wf T bd ln U p.s p.c w (sym es) (r.whole refl refl P (sym es) ln bd) ec (v.all refl)
+  ready_pending (Some k) child r v = go (ltb k (64 * p.s)) refl
     where
-      go : (a b : Bool) → ltb k (length T) ≡ a → ltb k (64 * p.s) ≡ b → Pending P T U w
-      go false b e f = let h = ltb-false k (length T) e in start-whole P wf T bd ln U p.s p.c w (sym es) (r.whole refl h P (sym es) ln bd) ec (v.all h)
-      go true true e f =
-          let l = ltb-true k (length T) e in
+      named : w ≡ word ix (position P.strings (owner P.strings k))
+      named = subst (λ (s : ℕ). w ≡ word ix (position s (owner s k))) (sym es) (v.named k refl)
+
+      go : (b : Bool) → ltb k (64 * p.s) ≡ b → Pending P T U w
+      go true f =
           let h = ltb-true k (64 * p.s) f in
-          start-text P wf T bd ln k (child (omega arith)) w (touching_wakes P ix n k w (named l)) (touching-inside P ix n k w (named l)) U (k / 64) (omega arith)
-          (owner-string P.strings k (omega arith)) (r.text refl l h P (sym es) ln)
-      go true false e f =
-          let l = ltb-true k (length T) e in
+          start-text P wf T bd ln k child.1 w (touching_wakes P ix n k w named) (touching-inside P ix n k w named) U (k / 64) (omega arith)
+          (owner-string P.strings k (omega arith)) (r.text refl k refl h P (sym es) ln)
+      go false f =
           let h = ltb-false k (64 * p.s) f in
-          rw (r.number refl l h) (start-number P wf T bd ln k (child (omega arith)) w (touching_wakes P ix n k w (named l)) (touching-inside P ix n k w (named l)) (k - 64 * P.strings)
+          rw (r.number refl k refl h) (start-number P wf T bd ln k child.1 w (touching_wakes P ix n k w named) (touching-inside P ix n k w named) (k - 64 * P.strings)
           (owner-number P.strings k (omega arith)))
 
 -- ---- lengths
 
-pub record Lengthy (T : List ℕ) (x : ℕ) : Type 0 where
-  pub each : (y : ℕ) → y < x → 0 < word T (64 * y)
-
-pub lengthy_start : (T : List ℕ) → Lengthy T 0
-lengthy_start T = record { each = λ y h. absurd (omega arith) }
-
-pub lengthy_next : {T : List ℕ} {x : ℕ} → word T (64 * x) ≢ 0 → Lengthy T x → Lengthy T (x + 1)
-lengthy_next {T} {x} n g = record {
-  each = λ y h. ⊎_elim (λ e. subst (λ (z : ℕ). 0 < word T (64 * z)) (sym e) (omega arith)) (g.each y) (eq-or-lt_of_le (let k : y ≤ x = omega arith in k));
-}
-
-pub lengthy_stop : {s : ℕ} {T : List ℕ} {x : ℕ} → x < s → word T (64 * x) ≡ 0 → Lengths s T false
-lengthy_stop {s} {T} {x} h z = record { each = λ q. absurd (false≢true q); none = λ q. (x, h, z) }
-
-pub lengthy_end : {s : ℕ} {T : List ℕ} (x : ℕ) → x ≡ s → Lengthy T x → Lengths s T true
-lengthy_end x e g = record { each = λ q y h. g.each y (omega arith); none = λ q. absurd (false≢true (sym q)) }
+pub lengths-looked : {s : ℕ} {T : List ℕ} (all : Bool) → Looked T (λ x. 64 * x) 0 s all → Lengths s T all
+lengths-looked true h = record { each = λ q x l. h x (omega arith) l; none = λ q. absurd (false≢true (sym q)) }
+lengths-looked false h = record { each = λ q. absurd (false≢true q); none = λ q. (h.0, h.2, h.3) }

@@ -1,12 +1,14 @@
 -- A run of constraints that wait: each turn takes one of them, and where it strikes those that share a variable with it wait. How it starts, and how it ends.
 -- Assumes nothing.
+use Rattle.std.specs.Prelude.{Some, None}
 use mathlib.Core.Path.{◌≡◌, refl, sym, ap, subst, ◌∙◌}
-use mathlib.Core.Logic.{◌≢◌, ⊎_elim}
+use mathlib.Core.Logic.{⊎_elim}
 use mathlib.Core.Bool.{true, false, false≢true}
 use mathlib.Core.List.{List}
 use Prim.Native.Nat.{ℕ, ◌+◌, ◌-◌, ◌*◌, ◌^◌, ◌≤◌, ◌<◌}
 use native.Mathlib.Omega.{arith}
 use lib.Bits.{bit_or}
+use Rattle.std.specs.Int.Bits.{or_zero_r}
 use lib.ListN.{length, get_or}
 use Rattle.model.specs.Words.{bit, bits, Words, size}
 use Rattle.model.specs.Constraints.{Problem, always, width}
@@ -22,9 +24,8 @@ use Rattle.laws.proofs.CallLaws.{lendable-below}
 use Rattle.shortcuts.specs.Waiting.{Apart, Running}
 use Rattle.shortcuts.proofs.WaitLaws.{Wakes}
 use Rattle.shortcuts.proofs.RunningLaws.{running-turn, running-done, running_stuck}
-use Rattle.shortcuts.proofs.TurnLaws.{pending_still, pending_woken, running-quiet, fewer-bits}
-use Rattle.waiting.specs.declared.Turn.TheVariants.{Quiet, Woken, Dead}
-use Rattle.waiting.specs.Turns.{Inside, Pending, Enough, TidyRows, Turned, Ends}
+use Rattle.shortcuts.proofs.TurnLaws.{pending_still, pending_woken, fewer-bits}
+use Rattle.waiting.specs.Turns.{Inside, Pending, Enough, TidyRows, Woken, Turned, Ends}
 
 -- what waits after a turn is enough, where only constraints that the turn did not touch are left out
 module _ {P : Problem} (w j more : ℕ) (here : bit w j ≡ true) {W Z : List ℕ} (table : Z ≡ narrowed P (get_or P.constraints j (always 0)) W) (e : Enough P j W Z more) where
@@ -68,61 +69,40 @@ module _ (P : Problem) (U : List ℕ) (u : ℕ) where
       rest-inside : Inside P (w - 2 ^ j)
       rest-inside d q = g.inside d (sub_within w j here d q)
 
-      -- it struck nothing
-      pub went_quiet : {Z : List ℕ} → Turned P j W Z Quiet → Went P U u Z (w - 2 ^ j) × (load Z (w - 2 ^ j) < load W w)
-      unfolding load
-      went_quiet {Z} t = (
-        record {
-          waits = λ T bd ln r. record {
-            running = subst (λ (Y : List ℕ). Running P T Y (bit (w - 2 ^ j))) (sym same)
-                (running-quiet P T W (bit w) (bit (w - 2 ^ j)) j (g.waits T bd ln r).running (t.quiet refl).1 (λ d h ne q. still d ne q));
-            inside = rest-inside;
-          };
-          same_length = t.same_length ∙ g.same_length;
-          lent = subst (λ (Y : List ℕ). lendable P Y ≡ true) (sym same) g.lent;
-          tidy = subst (TidyRows P) (sym same) g.tidy;
-          inside = rest-inside;
-        },
-        omega (arith, fewer-bits w j (omega (arith, less, most)) (λ d q. omega (arith, most, g.inside d q)) here, ap size same),
-      )
-        where
-          same : Z ≡ W
-          same = (t.quiet refl).0
-
-          still : (d : ℕ) → d ≢ j → bit w d ≡ true → bit (w - 2 ^ j) d ≡ true
-          still d ne q = ⊎_elim (λ x. x) (λ x. absurd (false≢true (sym (zero_bit d) ∙ x))) (of-or-bit (w - 2 ^ j) 0 d (pending_still w j 0 d here ne q))
-
-      -- it struck, and more wait
-      pub went_woken : {Z : List ℕ} (more : ℕ) → Turned P j W Z (Woken more) → Went P U u Z (bit_or (w - 2 ^ j) more) × (load Z (bit_or (w - 2 ^ j) more) < load W w)
+      -- more wait
+      pub went_woken : {Z : List ℕ} (more : ℕ) → Turned P j W Z (Some more) → Went P U u Z (bit_or (w - 2 ^ j) more) × (load Z (bit_or (w - 2 ^ j) more) < load W w)
       unfolding load
       went_woken {Z} more t = (
         record {
           waits = λ T bd ln r. record {
-            running = subst (λ (Y : List ℕ). Running P T Y (bit (bit_or (w - 2 ^ j) more))) (sym table)
-                (running-turn P wf T bd ln (g.waits T bd ln r).running j less (wakes_enough w j more here table enough));
+            running = subst (λ (Y : List ℕ). Running P T Y (bit (bit_or (w - 2 ^ j) more))) (sym k.table)
+                (running-turn P wf T bd ln (g.waits T bd ln r).running j less (wakes_enough w j more here k.table k.enough));
             inside = all-inside;
           };
           same_length = t.same_length ∙ g.same_length;
-          lent = lendable-below P Z W (subst (λ (T : List ℕ). Below T W) (sym table) (narrowed-below P (get_or P.constraints j (always 0)) W)) g.lent;
-          tidy = (t.woken more refl).2;
+          lent = lendable-below P Z W (subst (λ (T : List ℕ). Below T W) (sym k.table) (narrowed-below P (get_or P.constraints j (always 0)) W)) g.lent;
+          tidy = k.tidy;
           inside = all-inside;
         },
-        omega (arith, (t.woken more refl).1, bits_most (bit_or (w - 2 ^ j) more)),
+        ⊎_elim lower (λ l. omega (arith, l, bits_most (bit_or (w - 2 ^ j) more))) k.struck,
       )
         where
-          table : Z ≡ narrowed P (get_or P.constraints j (always 0)) W
-          table = (t.woken more refl).0
-
-          enough : Enough P j W Z more
-          enough = (t.woken more refl).3
+          k : Woken P j W Z more
+          k = t.leads
 
           all-inside : Inside P (bit_or (w - 2 ^ j) more)
-          all-inside d q = ⊎_elim (λ x. rest-inside d x) (λ x. enough.inside d x) (of-or-bit (w - 2 ^ j) more d q)
+          all-inside d q = ⊎_elim (λ x. rest-inside d x) (λ x. k.enough.inside d x) (of-or-bit (w - 2 ^ j) more d q)
+
+          -- it struck nothing, and one waits less
+          lower : (Z ≡ W) × (more ≡ 0) → load Z (bit_or (w - 2 ^ j) more) < load W w
+          lower e =
+              let z : bit_or (w - 2 ^ j) more ≡ w - 2 ^ j = ap (bit_or (w - 2 ^ j)) e.1 ∙ or_zero_r (w - 2 ^ j) in
+              omega (arith, fewer-bits w j (omega (arith, less, most)) (λ d q. omega (arith, most, g.inside d q)) here, ap size e.0, ap (λ (v : ℕ). length (bits v)) z)
 
       -- it left a variable without a value
-      pub went_dead : {Z : List ℕ} → Turned P j W Z Dead → Ends P U u Z false
+      pub went_dead : {Z : List ℕ} → Turned P j W Z None → Ends P U u Z false
       went_dead {Z} t = record {
         same_length = t.same_length ∙ g.same_length;
         settles = λ T bd ln r q. absurd (false≢true q);
-        dies = λ T bd ln r q. running_stuck P wf T W (bit w) bd ln (g.waits T bd ln r).running j less (t.dead refl);
+        dies = λ T bd ln r q. running_stuck P wf T W (bit w) bd ln (g.waits T bd ln r).running j less t.leads;
       }

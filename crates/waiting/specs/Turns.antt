@@ -1,5 +1,5 @@
 -- What waits as the bits of a word, and what a step, and all steps, make of it. Assumes nothing.
-use Rattle.std.specs.Prelude.{◌≡◌, ◌≢◌, Bool, true, false, List, ℕ, ◌<◌, length, get_or}
+use Rattle.std.specs.Prelude.{Option, MatchOption, ◌≡◌, ◌≢◌, ◌⊎◌, Bool, true, false, List, ℕ, ◌<◌, length, get_or}
 use Rattle.model.specs.Words.{bit, Words, size}
 use Rattle.model.specs.Domains.{row}
 use Rattle.model.specs.Constraints.{Problem, always, width}
@@ -7,8 +7,6 @@ use Rattle.model.specs.Support.{narrowed}
 use Rattle.model.specs.Rounds.{every_value, settled}
 use Rattle.shortcuts.specs.Waiting.{Apart, Running}
 use Rattle.inplace.specs.InTable.{Tidy}
-use Rattle.waiting.specs.declared.Turn.{Turn}
-use Rattle.waiting.specs.declared.Turn.TheVariants.{Quiet, Woken, Dead}
 
 -- only constraints of the problem wait
 abbrev pub Inside : Problem → ℕ → Type 0
@@ -28,12 +26,17 @@ pub record Enough (P : Problem) (j : ℕ) (T U : List ℕ) (w : ℕ) : Type 0 wh
 abbrev pub TidyRows : Problem → List ℕ → Type 0
 TidyRows P T = (x : ℕ) → x < P.strings → Tidy (row T x)
 
--- constraint j made U of T, and r says what that leads to
-pub record Turned (P : Problem) (j : ℕ) (T U : List ℕ) (r : Turn) : Type 0 where
+-- constraint j made U of T, and w waits because of it: it struck nothing, and nothing waits, or it struck
+pub record Woken (P : Problem) (j : ℕ) (T U : List ℕ) (w : ℕ) : Type 0 where
+  pub table : U ≡ narrowed P (get_or P.constraints j (always 0)) T
+  pub struck : ((U ≡ T) × (w ≡ 0)) ⊎ (size U < size T)
+  pub tidy : TidyRows P U
+  pub enough : Enough P j T U w
+
+-- constraint j made U of T, and r says what that leads to: what waits because of it, or none where a variable has no value
+pub record Turned (P : Problem) (j : ℕ) (T U : List ℕ) (r : Option ℕ) : Type 0 where
   pub same_length : length U ≡ length T
-  pub quiet : r ≡ Quiet → (U ≡ T) × (narrowed P (get_or P.constraints j (always 0)) T ≡ T)
-  pub woken : (w : ℕ) → r ≡ Woken w → (U ≡ narrowed P (get_or P.constraints j (always 0)) T) × (size U < size T) × TidyRows P U × Enough P j T U w
-  pub dead : r ≡ Dead → every_value P (narrowed P (get_or P.constraints j (always 0)) T) ≡ false
+  pub leads : MatchOption r (every_value P (narrowed P (get_or P.constraints j (always 0)) T) ≡ false) (λ w. Woken P j T U w)
 
 -- a run from U, with w waiting, left W: where r is true it is settled, and else a variable has no value when it is
 pub record Ends (P : Problem) (U : List ℕ) (w : ℕ) (W : List ℕ) (r : Bool) : Type 0 where

@@ -1,56 +1,31 @@
 // Settling the table of a search's node: only constraints that may strike are taken, and a node with a variable that has no value is left at once.
 // What waits is a word, bit j for constraint j.
 //
-// Assumes nothing. `requires` asks what refusals 1 to 8 leave, the index and the kinds of the file, and what the search knows of the table.
+// Assumes nothing. `requires` asks what the search knows of the table.
 
 #![tactic(auto)]
 
-ghost use Rattle.std.specs.Prelude.{◌≡◌, true, false, ℕ, ◌+◌, ◌*◌, ◌<◌, ◌≤◌, length};
+mod prepared;
+
+ghost use Rattle.std.specs.Prelude.{◌≡◌, true, ℕ, ◌+◌, ◌*◌, ◌<◌, ◌≤◌, length, IfSome};
 ghost use Rattle.model.specs.Words.{bit};
 ghost use Rattle.laws.specs.Lent.{lendable};
-ghost use Rattle.shortcuts.specs.Waiting.{Begun, Early};
-ghost use Rattle.format.specs.Accepting.{problem_in, Usable};
-ghost use Rattle.steps.specs.Step.{KindsIn};
-ghost use Rattle.index.specs.Index.{Index};
-ghost use Rattle.waiting.specs.Beginnings.{Trims, Readies, Wakes, Lengths};
+ghost use Rattle.shortcuts.specs.Waiting.{Early};
+ghost use Rattle.format.specs.Problems.{the_problem};
+ghost use Rattle.waiting.specs.Beginnings.{ChildAt, Trims, Readies, Wakes, Lengths};
 ghost use Rattle.waiting.specs.Turns.{Inside, TidyRows, Turned, Ends};
 
-// What a constraint's step leads to: it struck nothing; it struck, and these wait; or it left a variable without a value.
-#[derive(Clone, Copy)]
-enum Turn {
-    Quiet,
-    Woken(u64),
-    Dead,
-}
+pub use prepared::Prepared;
 
-// The step of constraint j, in a table of tidy rows.
-fn step(
-    file: &[u8],
-    p: layout::Parts,
-    ix: &[u64],
-    kinds: &[u64],
-    j: usize,
-    table: &mut [u64],
-) -> Turn
-    requires { Usable file.now p × (lendable (problem_in file.now p) table.old ≡ true) × (length ix.now ≡ 32)
-        × Index (problem_in file.now p) ix.now × (j < p.c) × TidyRows (problem_in file.now p) table.old
-        × KindsIn file.now p kinds.now }
-    ensures { Turned (problem_in file.now p) j table.old table.new result }
+// The step of constraint j, in a table of tidy rows: the constraints that wait because of it, or None where it left a variable without a value.
+fn step(p: &Prepared, j: usize, table: &mut [u64]) -> Option<u64>
+    requires { (lendable (the_problem p.now.problem) table.old ≡ true) × (j < p.now.problem.parts.c) × TidyRows (the_problem p.now.problem) table.old }
+    ensures { Turned (the_problem p.now.problem) j table.old table.new result }
 {
-    let start = p.constraints_at;
-    let end = p.automata_at;
-    let records::Decoded::Constraint(r) = records::at(&file[start..end], j, p.s, p.t, p.d) else {
-        return Turn::Quiet;
-    };
-    let n = steps::narrow(file, p, kinds, r, table);
-    if !n.left {
-        return Turn::Dead;
-    }
-    let woken = index::waking(ix, p.s, r, n);
-    if woken == 0 {
-        return Turn::Quiet;
-    }
-    Turn::Woken(woken - words::singleton(j)) // its own step would strike nothing
+    let r = p.problem.constraint(j);
+    let changed = steps::narrow(&p.problem, p.kinds, r, table)?;
+    let woken = index::waking(p.index, p.problem.parts.s, r, changed);
+    Some(woken & !words::singleton(j)) // its own step would strike nothing
 }
 
 // The constraint to take next: the lowest that waits from i on, or the lowest of all, so that they are taken in rounds.
@@ -66,29 +41,20 @@ fn next(pending: u64, i: usize) -> usize
 }
 
 // Takes constraints until none waits, or a variable has no value.
-fn run(
-    file: &[u8],
-    p: layout::Parts,
-    ix: &[u64],
-    kinds: &[u64],
-    start: u64,
-    table: &mut [u64],
-) -> bool
-    requires { Usable file.now p × (lendable (problem_in file.now p) table.old ≡ true) × (length ix.now ≡ 32)
-        × Index (problem_in file.now p) ix.now × Inside (problem_in file.now p) start × TidyRows (problem_in file.now p) table.old
-        × KindsIn file.now p kinds.now }
-    ensures { Ends (problem_in file.now p) table.old start table.new result }
+fn run(p: &Prepared, start: u64, table: &mut [u64]) -> bool
+    requires { (lendable (the_problem p.now.problem) table.old ≡ true) × Inside (the_problem p.now.problem) start
+        × TidyRows (the_problem p.now.problem) table.old }
+    ensures { Ends (the_problem p.now.problem) table.old start table.new result }
 {
     let mut pending = start;
     let mut j: usize = 0;
     while pending != 0 {
         j = next(pending, j);
-        pending = pending - words::singleton(j);
-        match step(file, p, ix, kinds, j, table) {
-            Turn::Quiet => {}
-            Turn::Woken(more) => pending = pending | more,
-            Turn::Dead => return false,
-        }
+        pending -= words::singleton(j);
+        let Some(woken) = step(p, j, table) else {
+            return false;
+        };
+        pending |= woken;
     }
     true
 }
@@ -106,30 +72,30 @@ fn tidy_all(table: &mut [u64], s: usize) -> bool
     true
 }
 
-// Makes a table ready that is a child at word `from`, or, where there is no such word, any table: the rows that may hold bits which no string of theirs uses are made
-// tidy. False where one has no value.
-fn ready(table: &mut [u64], s: usize, from: usize) -> bool
+// Makes a table ready that is a child at a word, or, where there is none, any table: the rows that may hold bits which no string of theirs uses are made tidy. False
+// where one has no value.
+fn ready(table: &mut [u64], s: usize, from: Option<usize>) -> bool
     requires { 64 * s ≤ length table.old }
     ensures { Readies s from table.old table.new result }
 {
-    if from >= table.len() {
+    let Some(at) = from else {
         return tidy_all(table, s);
-    }
-    if from < 64 * s {
-        return inplace::tidy(table, from / 64);
+    };
+    if at < 64 * s {
+        return inplace::tidy(table, at / 64);
     }
     true
 }
 
-// Which constraints wait then, in a table of n words.
-fn first_waiting(p: layout::Parts, ix: &[u64], n: usize, from: usize) -> u64
-    requires { (length ix.now ≡ 32) × (p.s ≤ 16) × (p.t ≤ 16) × (p.c ≤ 64) × (n ≡ 64 * p.s + p.t) }
-    ensures { Wakes p ix.now n from result }
+// Which constraints wait then.
+fn first_waiting(p: &Prepared, from: Option<usize>) -> u64
+    requires { IfSome from (λ at. at < 64 * p.now.problem.parts.s + 16) }
+    ensures { Wakes p.now.problem.parts p.now.index.now from result }
 {
-    if from >= n {
-        return words::below(p.c);
+    match from {
+        Some(at) => index::touching(p.index, p.problem.parts.s, at),
+        None => words::below(p.problem.parts.c),
     }
-    index::touching(ix, p.s, from)
 }
 
 // Whether each of the s strings has a length.
@@ -137,37 +103,19 @@ fn has_lengths(table: &[u64], s: usize) -> bool
     requires { 64 * s ≤ length table.now }
     ensures { Lengths s table.now result }
 {
-    for x in 0..s {
-        if table[64 * x] == 0 {
-            return false;
-        }
-    }
-    true
+    (0..s).all(|x| table[64 * x] != 0)
 }
 
-// Settles a table that is a child at word `from`, or, where there is no such word, any table; whether every variable then has a value. Where one has none the
-// table is left as the last step made it: nobody looks at it again.
-pub fn settle(
-    file: &[u8],
-    p: layout::Parts,
-    ix: &[u64],
-    kinds: &[u64],
-    table: &mut [u64],
-    from: usize,
-) -> bool
-    requires { Usable file.now p × (lendable (problem_in file.now p) table.old ≡ true) × (length ix.now ≡ 32)
-        × Index (problem_in file.now p) ix.now × Begun (problem_in file.now p) table.old from × KindsIn file.now p kinds.now }
-    ensures { Early (problem_in file.now p) table.old table.new result }
+// Settles a table that is a child at a word, or, where there is none, any table; whether every variable then has a value. Where one has none the table is left as
+// the last step made it: nobody looks at it again.
+pub fn settle(p: &Prepared, table: &mut [u64], from: Option<usize>) -> bool
+    requires { (lendable (the_problem p.now.problem) table.old ≡ true) × ChildAt (the_problem p.now.problem) table.old from }
+    ensures { Early (the_problem p.now.problem) table.old table.new result }
 {
-    if !ready(table, p.s, from) {
-        return false;
-    }
-    let start = first_waiting(p, ix, table.len(), from);
-    if !has_lengths(table, p.s) {
-        return false;
-    }
-    if !run(file, p, ix, kinds, start, table) {
-        return false;
-    }
-    rounds::every_value(table, p.s)
+    let s = p.problem.parts.s;
+    let start = first_waiting(p, from);
+    ready(table, s, from)
+        && has_lengths(table, s)
+        && run(p, start, table)
+        && rounds::every_value(table, s)
 }

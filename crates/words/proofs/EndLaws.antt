@@ -1,14 +1,19 @@
 -- The counts of zeros give the ends of a word. Assumes nothing.
-use mathlib.Core.Path.{◌≡◌, refl, ◌∙◌}
-use mathlib.Core.Bool.{true, false}
+use mathlib.Core.Path.{◌≡◌, refl, sym, ◌∙◌}
+use mathlib.Core.Logic.{⊎_elim}
+use mathlib.Core.Bool.{true, false, ◌&&◌, false≢true}
 use Prim.Native.Nat.{ℕ, zero, suc, ◌-◌, ◌*◌, ◌/◌, ◌%◌, ◌^◌, ◌+◌, ◌≤◌, ◌<◌, suc-le-suc}
 use native.Mathlib.Nat.{not-suc-le-zero, le_of_suc-le-suc, zero-lt-suc, pow-suc}
 use native.Mathlib.Omega.{arith}
+use lib.Bits.{bit_and, bit_or}
+use borrow.Author.Tests.{ltb-true}
+use Rattle.std.proofs.lemmas.Nat.{or_disjoint}
 use lib.Pow.{pow_pos}
 use lib.Count.{count_leading_zeros, count_trailing_zeros, leading_top, under}
 use Rattle.model.specs.Words.{bit}
-use Rattle.laws.proofs.WordLaws.{bit-lowest, bit-suc, bit_le}
-use Rattle.laws.proofs.ShiftLaws.{bit_past, bit_block}
+use Rattle.laws.proofs.ListLaws.{and_true, true_and, never_true}
+use Rattle.laws.proofs.WordLaws.{bit-lowest, bit-suc, bit_le, no_bits, or-bit-left, of-or-bit, sub_within, bool_ext, word_ext}
+use Rattle.laws.proofs.ShiftLaws.{bit_past, bit_block, bit_mask, bit-and, of-and-bit}
 use Rattle.words.specs.Ends.{Highest, Lowest}
 
 half_lt : (a k : ℕ) → a < 2 ^ suc k → a / 2 < 2 ^ k
@@ -61,3 +66,27 @@ lowest_off w a o low e =
     let p = pow_pos a in
     let l = bit_le w a low.here in
     (omega arith, omega arith)
+
+-- a word and one less have the same bits but for the lowest, and for those below it, which one alone has
+pub and_less : (w a : ℕ) → Lowest w a → bit_and w (w - 1) ≡ w - 2 ^ a
+and_less w a low = rw split (word_ext (bit_and w (bit_or v m)) v (λ b. bit-and w (bit_or v m) b
+    ∙ bool_ext (bit w b && bit (bit_or v m) b) (bit v b)
+    (λ y. let t = and_true (bit w b) (bit (bit_or v m) b) y in ⊎_elim (λ z. z) (λ z. absurd (none b t.0 z)) (of-or-bit v m b t.1))
+    (λ y. true_and (sub_within w a low.here b y) (or-bit-left v m b y))))
+  where
+    v : ℕ
+    v = w - 2 ^ a
+
+    m : ℕ
+    m = 2 ^ a - 1
+
+    none : (b : ℕ) → bit w b ≡ true → bit m b ≡ true → ⊥
+    none b y z = false≢true (sym (low.below b (ltb-true b a (sym (bit_mask a b) ∙ z))) ∙ y)
+
+    apart : bit_and v m ≡ 0
+    apart = no_bits (bit_and v m) (λ b. never_true (bit (bit_and v m) b) (λ y.
+        let t = of-and-bit v m b y in
+        none b (sub_within w a low.here b t.0) t.1))
+
+    split : w - 1 ≡ bit_or v m
+    split = let p = pow_pos a in let l = bit_le w a low.here in let s = or_disjoint v m apart in omega arith

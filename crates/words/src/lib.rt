@@ -5,8 +5,10 @@
 #![tactic(auto)]
 
 ghost use Rattle.std.specs.Prelude.{◌≡◌, true, ℕ, ◌<◌, ◌≤◌, ◌+◌, ◌-◌, ◌^◌, length};
-ghost use Rattle.model.specs.Words.{bit, bits, several, none_from};
+ghost use Rattle.model.specs.Words.{bit, bits, size, several, none_from};
 ghost use Rattle.words.specs.Ends.{Highest, Lowest};
+ghost use Rattle.words.specs.Each.{TakesLowest};
+ghost use Rattle.std.specs.Iterator.{at_most};
 
 // Whether bit i of w is set.
 pub fn has(w: u64, i: usize) -> bool
@@ -58,6 +60,14 @@ pub fn count(w: u64) -> u32
     u64::count_ones(w)
 }
 
+// How many bits of a table's words are set.
+pub fn size(table: &[u64]) -> u32
+    requires { length table.now ≤ 1040 }
+    ensures { result ≡ size table.now }
+{
+    table.iter().map(|&w| count(w)).sum()
+}
+
 // The highest set bit of a word that has one.
 pub fn highest(w: u64) -> usize
     requires { 0 < w }
@@ -82,4 +92,36 @@ pub fn several(w: u64) -> bool
         return false;
     }
     w != singleton(lowest(w))
+}
+
+// The bits of a word that are still to be given, from the lowest up: `for i in words::each_bit(w)` goes through the set bits of w.
+#[derive(Clone, Copy)]
+pub struct Bits {
+    pub rest: u64,
+}
+
+impl Iterator for Bits {
+    type Item = usize;
+
+    ghost can_next = { λ s. Unit {0} };
+
+    ghost next_gives = { TakesLowest };
+
+    ghost remaining = { λ s. at_most s.rest };
+
+    fn next(&mut self) -> Option<usize> {
+        if self.rest == 0 {
+            return None;
+        }
+        let i = lowest(self.rest);
+        self.rest &= self.rest - 1;
+        Some(i)
+    }
+}
+
+// Each set bit of a word, from the lowest up.
+pub fn each_bit(w: u64) -> Bits
+    ensures { result.rest ≡ w }
+{
+    Bits { rest: w }
 }

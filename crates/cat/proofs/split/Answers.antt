@@ -1,12 +1,11 @@
-use Rattle.std.proofs.Common.{arith}
-use mathlib.Core.Path.{◌∙◌}
+use Rattle.std.proofs.Common.{arith, rules}
 use Rattle.laws.proofs.TableLaws.{words_of}
 use Rattle.cat.proofs.GatherLaws.{split-room, split-within, split-empty, split-none, split-some}
 use Rattle.cat.proofs.split.Goals as goal
 
 pub returns-then-lengths-eq0 : goal.returns-then-lengths-eq0
 returns-then-lengths-eq0 c =
-    split-empty _ _ _ _ _ _ c.requires.0 (words_of c.args.t.now (λ i. (c.shared_slice_known-2-1.given i).fits)) c.requires.2 _ c.if-lengths-eq0.true
+    split-empty _ _ _ _ _ _ c.requires.0 (words_of c.args.t.now (λ i. search rules)) c.requires.2 _ c.if-lengths-eq0.true
 
 pub meets-requires : goal.meets-requires
 meets-requires c =
@@ -15,20 +14,23 @@ meets-requires c =
 
 pub returns-then-kept-eq0 : goal.returns-then-kept-eq0
 returns-then-kept-eq0 c =
-    split-none _ _ _ _ _ _ c.requires.0 (words_of c.args.t.now (λ i. (c.shared_slice_known-2-1.given i).fits)) c.requires.2 _ _ c.highest.ensures _
+    split-none _ _ _ _ _ _ c.requires.0 (words_of c.args.t.now (λ i. search rules)) c.requires.2 _ _ c.highest.ensures _
     c.meets.ensures
     _ c.low_mask.ensures c.if-kept-eq0.true
 
-pub add-requires-2 : goal.add-requires-2
-add-requires-2 c =
+pub add-requires-3 : goal.add-requires-3
+add-requires-3 c =
     let o = split-room _ _ _ _ _ c.requires.0 _ c.highest.ensures in
     let l = split-within _ _ _ _ c.highest.ensures c.highest-top.ensures in
-    let e = c.add.ensures.size ∙ c.lengthen.ensures.size ∙ c.requires.3 in
-    (omega arith, omega arith, omega arith, omega arith)
+    (omega arith, omega arith, omega arith)
+
+pub add-requires-4 : goal.add-requires-4
+add-requires-4 c =
+    let o = split-room _ _ _ _ _ c.requires.0 _ c.highest.ensures in
+    let l = split-within _ _ _ _ c.highest.ensures c.highest-top.ensures in
+    (omega arith, omega arith, omega arith)
 
 pub returns : goal.returns
 returns c =
-    split-some _ _ _ _ _ _ c.requires.0 (words_of c.args.t.now (λ i. (c.shared_slice_known-2-1.given i).fits)) c.requires.2 _ _ c.highest.ensures _
-    c.meets.ensures
-    _ c.low_mask.ensures _ c.highest-top.ensures _ c.singleton.ensures
-    _ _ _ c.lengthen.ensures c.add.ensures c.add-2.ensures
+    split-some _ _ _ _ _ _ c.requires.0 (words_of c.args.t.now (λ i. search rules)) c.requires.2 _ _ c.highest.ensures _
+    c.meets.ensures _ c.low_mask.ensures _ c.highest-top.ensures _ c.singleton.ensures _ _ _ _ c.add.ensures c.add-2.ensures c.add-3.ensures c.add-4.ensures

@@ -1,28 +1,24 @@
-use mathlib.Core.Path.{refl}
-use Rattle.cobleskeg.proofs.ByIndexLaws.{index-early, index_eighteen, index_asks, index-whole}
+use Rattle.std.proofs.Common.{rules, ◌≡◌, Err, sym}
+use Rattle.cobleskeg.proofs.AnswerLaws.{refuses, accepts, stays, shows}
+use Rattle.cobleskeg.proofs.ByIndexLaws.{index-early, index_eighteen, index-whole}
 use Rattle.cobleskeg.proofs.index.Goals as goal
 
-pub returns-then-index-p-clause-result_after : goal.returns-then-index-p-clause-result_after
-returns-then-index-p-clause-result_after c =
-    (index_eighteen _ _ (c.in-Laid.ensures.result_value, c.in-Laid.ensures.fitted) _ _ refl c.if-index-p.true).0
+pub returns-in_err-p : goal.returns-in_err-p
+returns-in_err-p c =
+    let same : c.from_residual.result ≡ Err c.in_err-p.field-0.0 = search rules in
+    let r = index-early _ _ (refuses _ _ c.in_err-p.ensures.result_value) c.args.index.now in
+    record { result_after = rw same (sym r); index_after = stays _ _ _ _ r }
 
-pub returns-then-index-p-clause-index_after : goal.returns-then-index-p-clause-index_after
-returns-then-index-p-clause-index_after c =
-    (index_eighteen _ _ (c.in-Laid.ensures.result_value, c.in-Laid.ensures.fitted) _ _ refl c.if-index-p.true).1
+pub returns-in_err-check_index : goal.returns-in_err-check_index
+returns-in_err-check_index c =
+    let same : c.from_residual-in_err-check_index.result ≡ Err c.in_err-check_index.field-0.0 = search rules in
+    let r = index_eighteen (accepts c.in_ok-p.ensures.result_value c.in_ok-p.ensures.of_file) c.args.index.now c.in_err-check_index.ensures.1 in
+    record { result_after = rw (same, c.in_err-check_index.ensures.0) (sym r); index_after = stays _ _ _ _ r }
 
 pub write-requires : goal.write-requires
-write-requires c = index_asks _ _ (c.in-Laid.ensures.result_value, c.in-Laid.ensures.fitted) c.args.index.now _ refl c.if-index-p.false
+write-requires c = c.in_ok-check_index.ensures
 
-pub returns-in-Refused-clause-result_after : goal.returns-in-Refused-clause-result_after
-returns-in-Refused-clause-result_after c = (index-early _ _ (c.in-Refused.ensures.result_value, c.in-Refused.ensures.fitted) _ _ refl).0
-
-pub returns-in-Refused-clause-index_after : goal.returns-in-Refused-clause-index_after
-returns-in-Refused-clause-index_after c = (index-early _ _ (c.in-Refused.ensures.result_value, c.in-Refused.ensures.fitted) _ _ refl).1
-
-pub returns-else-index-p-clause-result_after : goal.returns-else-index-p-clause-result_after
-returns-else-index-p-clause-result_after c =
-    (index-whole _ _ (c.in-Laid.ensures.result_value, c.in-Laid.ensures.fitted) c.args.index.now _ refl c.if-index-p.false _ c.write.ensures).0
-
-pub returns-else-index-p-clause-index_after : goal.returns-else-index-p-clause-index_after
-returns-else-index-p-clause-index_after c =
-    (index-whole _ _ (c.in-Laid.ensures.result_value, c.in-Laid.ensures.fitted) c.args.index.now _ refl c.if-index-p.false _ c.write.ensures).1
+pub returns : goal.returns
+returns c =
+    let r = index-whole (accepts c.in_ok-p.ensures.result_value c.in_ok-p.ensures.of_file) c.args.index.now c.in_ok-check_index.ensures _ c.write.ensures in
+    record { result_after = r; index_after = shows _ _ _ _ r }

@@ -1,13 +1,7 @@
-use mathlib.Core.Path.{◌≡◌}
-use Prim.Native.Nat.{◌-◌, ◌≤◌}
-use lib.ListN.{length}
 use Rattle.model.specs.Reading.{reading}
 use Rattle.cobleskeg.specs.Claims.{call_by_index}
 use Rattle.cobleskeg.proofs.PerformLaws.{Called}
 use Rattle.cobleskeg.proofs.perform_by_index.Given as goal
 
-abbrev pub invariant-loop-i : goal.invariant-loop-i
-invariant-loop-i l = (l.i ≤ l.calls) × (length l.table ≡ length l.initial.table) × Called (reading l.file) (call_by_index l.index) l.list l.initial.table l.i l.table
-
-abbrev pub decreases-loop-i : goal.decreases-loop-i
-decreases-loop-i l = l.calls - l.i
+abbrev pub invariant-loop-number : goal.invariant-loop-number
+invariant-loop-number l = Called (reading l.file) (call_by_index l.index) l.list l.initial.table l.number-index l.table

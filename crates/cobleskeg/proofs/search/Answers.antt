@@ -1,117 +1,33 @@
-use mathlib.Core.Path.{refl}
-use Rattle.std.proofs.Common.{rules}
-use Rattle.cobleskeg.proofs.SearchEntryLaws.{search-early, search_twelve, search_thirteen, search-there, found-done, none_done, spent-done}
+use Rattle.std.proofs.Common.{rules, ◌≡◌, Err, arith, sym, ◌∙◌}
+use Rattle.cobleskeg.proofs.AnswerLaws.{refuses, accepts, stays, shows, counts}
+use Rattle.cobleskeg.proofs.SearchEntryLaws.{search-holds, search-early, search_twelve, search_thirteen, search-done}
 use Rattle.cobleskeg.proofs.search.Goals as goal
 
-pub returns-then-room-words-clause-result_after : goal.returns-then-room-words-clause-result_after
-returns-then-room-words-clause-result_after c =
-    (search_twelve _ (λ i. search rules) _ _ _ _ (c.in-Laid.ensures.result_value, c.in-Laid.ensures.fitted) _ refl c.if-room-words.true).0
+pub returns-in_err-p : goal.returns-in_err-p
+returns-in_err-p c =
+    let same : c.from_residual.result ≡ Err c.in_err-p.field-0.0 = search rules in
+    let r = search-early _ _ (refuses _ _ c.in_err-p.ensures.result_value) c.args.budget c.args.room.now c.args.table.now in
+    rw same (record { result_after = sym r; room_after = stays _ _ _ _ r; table_after = stays _ _ _ _ r; search_holds = search-holds _ (λ i. search rules) _ _ _ c.args.room.now _ _ (sym r) })
 
-pub returns-then-room-words-clause-room_after : goal.returns-then-room-words-clause-room_after
-returns-then-room-words-clause-room_after c =
-    (search_twelve _ (λ i. search rules) _ _ _ _ (c.in-Laid.ensures.result_value, c.in-Laid.ensures.fitted) _ refl c.if-room-words.true).1.0
+pub returns-then-room-words : goal.returns-then-room-words
+returns-then-room-words c =
+    let r = search_twelve (accepts c.in_ok-p.ensures.result_value c.in_ok-p.ensures.of_file) c.args.budget c.args.room.now c.args.table.now (omega arith) in
+    record { result_after = sym r; room_after = stays _ _ _ _ r; table_after = stays _ _ _ _ r; search_holds = search-holds _ (λ i. search rules) _ _ _ c.args.room.now _ _ (sym r) }
 
-pub returns-then-room-words-clause-table_after : goal.returns-then-room-words-clause-table_after
-returns-then-room-words-clause-table_after c =
-    (search_twelve _ (λ i. search rules) _ _ _ _ (c.in-Laid.ensures.result_value, c.in-Laid.ensures.fitted) _ refl c.if-room-words.true).1.1.0
-
-pub returns-then-room-words-clause-search_holds : goal.returns-then-room-words-clause-search_holds
-returns-then-room-words-clause-search_holds c =
-    (search_twelve _ (λ i. search rules) _ _ _ _ (c.in-Laid.ensures.result_value, c.in-Laid.ensures.fitted) _ refl c.if-room-words.true).1.1.1
-
-pub returns-then-table-words-clause-result_after : goal.returns-then-table-words-clause-result_after
-returns-then-table-words-clause-result_after c =
-    (search_thirteen _ (λ i. search rules) _ _ _ _ (c.in-Laid.ensures.result_value, c.in-Laid.ensures.fitted) _ refl c.if-room-words.false c.if-table-words.true).0
-
-pub returns-then-table-words-clause-room_after : goal.returns-then-table-words-clause-room_after
-returns-then-table-words-clause-room_after c =
-    (search_thirteen _ (λ i. search rules) _ _ _ _ (c.in-Laid.ensures.result_value, c.in-Laid.ensures.fitted) _ refl c.if-room-words.false c.if-table-words.true).1.0
-
-pub returns-then-table-words-clause-table_after : goal.returns-then-table-words-clause-table_after
-returns-then-table-words-clause-table_after c =
-    (search_thirteen _ (λ i. search rules) _ _ _ _ (c.in-Laid.ensures.result_value, c.in-Laid.ensures.fitted) _ refl c.if-room-words.false c.if-table-words.true).1.1.0
-
-pub returns-then-table-words-clause-search_holds : goal.returns-then-table-words-clause-search_holds
-returns-then-table-words-clause-search_holds c =
-    (search_thirteen _ (λ i. search rules) _ _ _ _ (c.in-Laid.ensures.result_value, c.in-Laid.ensures.fitted) _ refl c.if-room-words.false c.if-table-words.true).1.1.1
+pub returns-then-table-words : goal.returns-then-table-words
+returns-then-table-words c =
+    let r = search_thirteen (accepts c.in_ok-p.ensures.result_value c.in_ok-p.ensures.of_file) c.args.budget c.args.room.now c.args.table.now (omega arith) (λ e. c.if-table-words.true (e ∙ sym c.words-words.ensures)) in
+    record { result_after = sym r; room_after = stays _ _ _ _ r; table_after = stays _ _ _ _ r; search_holds = search-holds _ (λ i. search rules) _ _ _ c.args.room.now _ _ (sym r) }
 
 pub search-requires : goal.search-requires
 search-requires c =
-    search-there _ (λ i. search rules) c.args.budget c.args.room.now c.args.table.now _
-    (c.in-Laid.ensures.result_value, c.in-Laid.ensures.fitted) _ refl c.if-room-words.false c.if-table-words.false
+    (omega arith, omega arith)
 
-pub returns-in-Refused-clause-result_after : goal.returns-in-Refused-clause-result_after
-returns-in-Refused-clause-result_after c =
-    (search-early _ (λ i. search rules) _ _ _ _ (c.in-Refused.ensures.result_value, c.in-Refused.ensures.fitted) _ refl).0
+pub returns : goal.returns
+returns c =
+    let s = c.search.ensures in
+    let r = search-done (accepts c.in_ok-p.ensures.result_value c.in_ok-p.ensures.of_file) c.args.budget c.args.room.now c.args.table.now (omega arith) (c.if-table-words.false ∙ c.words-words.ensures) _ _ _ s.answer_after s.room_after in
+    record { result_after = r; room_after = shows _ _ _ _ r; table_after = shows _ _ _ _ r; search_holds = search-holds _ (λ i. search rules) _ _ _ _ _ _ r }
 
-pub returns-in-Refused-clause-room_after : goal.returns-in-Refused-clause-room_after
-returns-in-Refused-clause-room_after c =
-    (search-early _ (λ i. search rules) _ _ _ _ (c.in-Refused.ensures.result_value, c.in-Refused.ensures.fitted) _ refl).1.0
-
-pub returns-in-Refused-clause-table_after : goal.returns-in-Refused-clause-table_after
-returns-in-Refused-clause-table_after c =
-    (search-early _ (λ i. search rules) _ _ _ _ (c.in-Refused.ensures.result_value, c.in-Refused.ensures.fitted) _ refl).1.1.0
-
-pub returns-in-Refused-clause-search_holds : goal.returns-in-Refused-clause-search_holds
-returns-in-Refused-clause-search_holds c =
-    (search-early _ (λ i. search rules) _ _ _ _ (c.in-Refused.ensures.result_value, c.in-Refused.ensures.fitted) _ refl).1.1.1
-
-pub returns-in-Found-clause-result_after : goal.returns-in-Found-clause-result_after
-returns-in-Found-clause-result_after c =
-    (found-done _ (λ i. search rules) _ _ _ _ (c.in-Laid.ensures.result_value, c.in-Laid.ensures.fitted) _ refl
-    c.if-room-words.false c.if-table-words.false _ _ _ (c.in-Found.ensures.answer_after, c.in-Found.ensures.room_after) _ refl).0
-
-pub returns-in-Found-clause-room_after : goal.returns-in-Found-clause-room_after
-returns-in-Found-clause-room_after c =
-    (found-done _ (λ i. search rules) _ _ _ _ (c.in-Laid.ensures.result_value, c.in-Laid.ensures.fitted) _ refl
-    c.if-room-words.false c.if-table-words.false _ _ _ (c.in-Found.ensures.answer_after, c.in-Found.ensures.room_after) _ refl).1.0
-
-pub returns-in-Found-clause-table_after : goal.returns-in-Found-clause-table_after
-returns-in-Found-clause-table_after c =
-    (found-done _ (λ i. search rules) _ _ _ _ (c.in-Laid.ensures.result_value, c.in-Laid.ensures.fitted) _ refl
-    c.if-room-words.false c.if-table-words.false _ _ _ (c.in-Found.ensures.answer_after, c.in-Found.ensures.room_after) _ refl).1.1.0
-
-pub returns-in-Found-clause-search_holds : goal.returns-in-Found-clause-search_holds
-returns-in-Found-clause-search_holds c =
-    (found-done _ (λ i. search rules) _ _ _ _ (c.in-Laid.ensures.result_value, c.in-Laid.ensures.fitted) _ refl
-    c.if-room-words.false c.if-table-words.false _ _ _ (c.in-Found.ensures.answer_after, c.in-Found.ensures.room_after) _ refl).1.1.1
-
-pub returns-in-None-clause-result_after : goal.returns-in-None-clause-result_after
-returns-in-None-clause-result_after c =
-    (none_done _ (λ i. search rules) _ _ _ _ (c.in-Laid.ensures.result_value, c.in-Laid.ensures.fitted) _ refl
-    c.if-room-words.false c.if-table-words.false _ _ _ (c.in-None.ensures.answer_after, c.in-None.ensures.room_after) _ refl).0
-
-pub returns-in-None-clause-room_after : goal.returns-in-None-clause-room_after
-returns-in-None-clause-room_after c =
-    (none_done _ (λ i. search rules) _ _ _ _ (c.in-Laid.ensures.result_value, c.in-Laid.ensures.fitted) _ refl
-    c.if-room-words.false c.if-table-words.false _ _ _ (c.in-None.ensures.answer_after, c.in-None.ensures.room_after) _ refl).1.0
-
-pub returns-in-None-clause-table_after : goal.returns-in-None-clause-table_after
-returns-in-None-clause-table_after c =
-    (none_done _ (λ i. search rules) _ _ _ _ (c.in-Laid.ensures.result_value, c.in-Laid.ensures.fitted) _ refl
-    c.if-room-words.false c.if-table-words.false _ _ _ (c.in-None.ensures.answer_after, c.in-None.ensures.room_after) _ refl).1.1.0
-
-pub returns-in-None-clause-search_holds : goal.returns-in-None-clause-search_holds
-returns-in-None-clause-search_holds c =
-    (none_done _ (λ i. search rules) _ _ _ _ (c.in-Laid.ensures.result_value, c.in-Laid.ensures.fitted) _ refl
-    c.if-room-words.false c.if-table-words.false _ _ _ (c.in-None.ensures.answer_after, c.in-None.ensures.room_after) _ refl).1.1.1
-
-pub returns-in-Spent-clause-result_after : goal.returns-in-Spent-clause-result_after
-returns-in-Spent-clause-result_after c =
-    (spent-done _ (λ i. search rules) _ _ _ _ (c.in-Laid.ensures.result_value, c.in-Laid.ensures.fitted) _ refl
-    c.if-room-words.false c.if-table-words.false _ _ _ (c.in-Spent.ensures.answer_after, c.in-Spent.ensures.room_after) _ refl).0
-
-pub returns-in-Spent-clause-room_after : goal.returns-in-Spent-clause-room_after
-returns-in-Spent-clause-room_after c =
-    (spent-done _ (λ i. search rules) _ _ _ _ (c.in-Laid.ensures.result_value, c.in-Laid.ensures.fitted) _ refl
-    c.if-room-words.false c.if-table-words.false _ _ _ (c.in-Spent.ensures.answer_after, c.in-Spent.ensures.room_after) _ refl).1.0
-
-pub returns-in-Spent-clause-table_after : goal.returns-in-Spent-clause-table_after
-returns-in-Spent-clause-table_after c =
-    (spent-done _ (λ i. search rules) _ _ _ _ (c.in-Laid.ensures.result_value, c.in-Laid.ensures.fitted) _ refl
-    c.if-room-words.false c.if-table-words.false _ _ _ (c.in-Spent.ensures.answer_after, c.in-Spent.ensures.room_after) _ refl).1.1.0
-
-pub returns-in-Spent-clause-search_holds : goal.returns-in-Spent-clause-search_holds
-returns-in-Spent-clause-search_holds c =
-    (spent-done _ (λ i. search rules) _ _ _ _ (c.in-Laid.ensures.result_value, c.in-Laid.ensures.fitted) _ refl
-    c.if-room-words.false c.if-table-words.false _ _ _ (c.in-Spent.ensures.answer_after, c.in-Spent.ensures.room_after) _ refl).1.1.1
+pub overflow_mul-words : goal.overflow_mul-words
+overflow_mul-words c = let most = (counts c.in_ok-p.p).most-words in omega arith

@@ -1,25 +1,24 @@
-use mathlib.Core.Path.{refl}
-use Rattle.cobleskeg.proofs.AnswerLaws.{unpack-early, unpack-nine, unpack-whole}
+use Rattle.std.proofs.Common.{rules, ◌≡◌, Err, sym}
+use Rattle.cobleskeg.proofs.AnswerLaws.{refuses, accepts, stays, unpack-early, unpack-nine, table-there, unpack-whole}
 use Rattle.cobleskeg.proofs.unpack.Goals as goal
 
-pub returns-then-table-p-clause-result_after : goal.returns-then-table-p-clause-result_after
-returns-then-table-p-clause-result_after c =
-    (unpack-nine _ _ (c.in-Laid.ensures.result_value, c.in-Laid.ensures.fitted) _ _ refl c.if-table-p.true).0
+pub returns-in_err-p : goal.returns-in_err-p
+returns-in_err-p c =
+    let same : c.from_residual.result ≡ Err c.in_err-p.field-0.0 = search rules in
+    let r = unpack-early _ _ (refuses _ _ c.in_err-p.ensures.result_value) c.args.table.now in
+    record { result_after = rw same (sym r); table_after = stays _ _ _ _ r }
 
-pub returns-then-table-p-clause-table_after : goal.returns-then-table-p-clause-table_after
-returns-then-table-p-clause-table_after c =
-    (unpack-nine _ _ (c.in-Laid.ensures.result_value, c.in-Laid.ensures.fitted) _ _ refl c.if-table-p.true).1
+pub returns-in_err-check_length : goal.returns-in_err-check_length
+returns-in_err-check_length c =
+    let same : c.from_residual-in_err-check_length.result ≡ Err c.in_err-check_length.field-0.0 = search rules in
+    let r = unpack-nine (accepts c.in_ok-p.ensures.result_value c.in_ok-p.ensures.of_file) c.args.table.now c.in_err-check_length.ensures.1 in
+    record { result_after = rw (same, c.in_err-check_length.ensures.0) (sym r); table_after = stays _ _ _ _ r }
 
-pub returns-in-Refused-clause-result_after : goal.returns-in-Refused-clause-result_after
-returns-in-Refused-clause-result_after c = (unpack-early _ _ (c.in-Refused.ensures.result_value, c.in-Refused.ensures.fitted) _ _ refl).0
+pub returns : goal.returns
+returns c =
+    let r = unpack-whole (accepts c.in_ok-p.ensures.result_value c.in_ok-p.ensures.of_file) c.args.table.now c.in_ok-check_length.ensures _ c.table_bytes.ensures _ c.unpack.ensures in
+    record { result_after = r.0; table_after = r.1 }
 
-pub returns-in-Refused-clause-table_after : goal.returns-in-Refused-clause-table_after
-returns-in-Refused-clause-table_after c = (unpack-early _ _ (c.in-Refused.ensures.result_value, c.in-Refused.ensures.fitted) _ _ refl).1
-
-pub returns-else-table-p-clause-result_after : goal.returns-else-table-p-clause-result_after
-returns-else-table-p-clause-result_after c =
-    (unpack-whole _ _ (c.in-Laid.ensures.result_value, c.in-Laid.ensures.fitted) c.args.table.now _ refl c.if-table-p.false _ c.unpack.ensures).0
-
-pub returns-else-table-p-clause-table_after : goal.returns-else-table-p-clause-table_after
-returns-else-table-p-clause-table_after c =
-    (unpack-whole _ _ (c.in-Laid.ensures.result_value, c.in-Laid.ensures.fitted) c.args.table.now _ refl c.if-table-p.false _ c.unpack.ensures).1
+pub unpack-requires : goal.unpack-requires
+unpack-requires c =
+    table-there (accepts c.in_ok-p.ensures.result_value c.in_ok-p.ensures.of_file) c.args.table.now c.in_ok-check_length.ensures _ c.table_bytes.ensures

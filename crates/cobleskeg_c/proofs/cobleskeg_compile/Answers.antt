@@ -1,24 +1,16 @@
-use mathlib.Core.Path.{refl}
-use Rattle.cobleskeg_c.proofs.ZeroLaws.{compile-numbered}
-use Rattle.cobleskeg_c.proofs.EntryLaws.{compile-refused, compile-written}
+use Rattle.std.proofs.Common.{rules, ◌∙◌}
+use Rattle.cobleskeg_c.proofs.ReturnLaws.{refused-number, refused-stays, answered-number, answered-written}
+use Rattle.refusals.proofs.NumberLaws.{number-some}
+use Rattle.std.proofs.Common.{arith, refl}
 use Rattle.cobleskeg_c.proofs.cobleskeg_compile.Goals as goal
 
-pub returns-in-Refused-clause-value : goal.returns-in-Refused-clause-value
-returns-in-Refused-clause-value c =
-    (compile-refused _ _ _ _ _ c.in-Refused.ensures.result_after c.in-Refused.ensures.compile_holds _ c.args.written.now (compile-numbered _ _ _) refl).0
+pub returns-in-Err : goal.returns-in-Err
+returns-in-Err c =
+    let told = c.in-Err.ensures.result_after in
+    let some = number-some c.in-Err.e in
+    record { value = c.number.ensures ∙ refused-number _ _ told; buffer_after = c.in-Err.ensures.buffer_after; written_after = refused-stays _ _ told _ _; accepts_language = λ z. absurd (omega (arith, c.number.ensures)) }
 
-pub returns-in-Refused-clause-written_after : goal.returns-in-Refused-clause-written_after
-returns-in-Refused-clause-written_after c =
-    (compile-refused _ _ _ _ _ c.in-Refused.ensures.result_after c.in-Refused.ensures.compile_holds _ c.args.written.now (compile-numbered _ _ _) refl).1.0
-
-pub returns-in-Refused-clause-accepts_language : goal.returns-in-Refused-clause-accepts_language
-returns-in-Refused-clause-accepts_language c =
-    (compile-refused _ _ _ _ _ c.in-Refused.ensures.result_after c.in-Refused.ensures.compile_holds _ c.args.written.now (compile-numbered _ _ _) refl).1.1
-
-pub returns-in-Written-clause-value : goal.returns-in-Written-clause-value
-returns-in-Written-clause-value c =
-    (compile-written _ _ _ _ _ c.in-Written.ensures.result_after c.in-Written.ensures.compile_holds _ c.args.written.now refl).0
-
-pub returns-in-Written-clause-written_after : goal.returns-in-Written-clause-written_after
-returns-in-Written-clause-written_after c =
-    (compile-written _ _ _ _ _ c.in-Written.ensures.result_after c.in-Written.ensures.compile_holds _ c.args.written.now refl).1.0
+pub returns-in-Ok : goal.returns-in-Ok
+returns-in-Ok c =
+    let told = c.in-Ok.ensures.result_after in
+    record { value = answered-number _ _ told; buffer_after = c.in-Ok.ensures.buffer_after; written_after = answered-written _ _ told _ _; accepts_language = λ z. c.in-Ok.ensures.compile_holds _ refl }

@@ -1,51 +1,29 @@
-use mathlib.Core.Path.{refl}
-use Rattle.cobleskeg_c.proofs.EntryLaws.{read-refused, read-counted}
+use Rattle.std.proofs.Common.{rules, ◌∙◌}
+use Rattle.cobleskeg_c.proofs.ReturnLaws.{refused-number, refused-stays, answered-number, answered-written}
+use Rattle.cobleskeg.specs.Answers.{header_of}
 use Rattle.cobleskeg_c.proofs.cobleskeg_read.Goals as goal
 
-pub returns-in-Refused-clause-value : goal.returns-in-Refused-clause-value
-returns-in-Refused-clause-value c =
-    (read-refused _ _ c.in-Refused.ensures _ refl c.args.symbols.now c.args.strings.now c.args.numbers.now c.args.automata.now c.args.constraints.now).0
+pub returns-in-Err : goal.returns-in-Err
+returns-in-Err c =
+    let told = c.in-Err.ensures in
+    record {
+      value = c.number.ensures ∙ refused-number _ _ told;
+      symbols_after = refused-stays _ _ told _ _;
+      strings_after = refused-stays _ _ told _ _;
+      numbers_after = refused-stays _ _ told _ _;
+      automata_after = refused-stays _ _ told _ _;
+      constraints_after = refused-stays _ _ told _ _;
+    }
 
-pub returns-in-Refused-clause-symbols_after : goal.returns-in-Refused-clause-symbols_after
-returns-in-Refused-clause-symbols_after c =
-    (read-refused _ _ c.in-Refused.ensures _ refl c.args.symbols.now c.args.strings.now c.args.numbers.now c.args.automata.now c.args.constraints.now).1.0
-
-pub returns-in-Refused-clause-strings_after : goal.returns-in-Refused-clause-strings_after
-returns-in-Refused-clause-strings_after c =
-    (read-refused _ _ c.in-Refused.ensures _ refl c.args.symbols.now c.args.strings.now c.args.numbers.now c.args.automata.now c.args.constraints.now).1.1.0
-
-pub returns-in-Refused-clause-numbers_after : goal.returns-in-Refused-clause-numbers_after
-returns-in-Refused-clause-numbers_after c =
-    (read-refused _ _ c.in-Refused.ensures _ refl c.args.symbols.now c.args.strings.now c.args.numbers.now c.args.automata.now c.args.constraints.now).1.1.1.0
-
-pub returns-in-Refused-clause-automata_after : goal.returns-in-Refused-clause-automata_after
-returns-in-Refused-clause-automata_after c =
-    (read-refused _ _ c.in-Refused.ensures _ refl c.args.symbols.now c.args.strings.now c.args.numbers.now c.args.automata.now c.args.constraints.now).1.1.1.1.0
-
-pub returns-in-Refused-clause-constraints_after : goal.returns-in-Refused-clause-constraints_after
-returns-in-Refused-clause-constraints_after c =
-    (read-refused _ _ c.in-Refused.ensures _ refl c.args.symbols.now c.args.strings.now c.args.numbers.now c.args.automata.now c.args.constraints.now).1.1.1.1.1
-
-pub returns-in-Counts-clause-value : goal.returns-in-Counts-clause-value
-returns-in-Counts-clause-value c =
-    (read-counted _ _ c.in-Counts.ensures _ refl c.args.symbols.now c.args.strings.now c.args.numbers.now c.args.automata.now c.args.constraints.now).0
-
-pub returns-in-Counts-clause-symbols_after : goal.returns-in-Counts-clause-symbols_after
-returns-in-Counts-clause-symbols_after c =
-    (read-counted _ _ c.in-Counts.ensures _ refl c.args.symbols.now c.args.strings.now c.args.numbers.now c.args.automata.now c.args.constraints.now).1.0
-
-pub returns-in-Counts-clause-strings_after : goal.returns-in-Counts-clause-strings_after
-returns-in-Counts-clause-strings_after c =
-    (read-counted _ _ c.in-Counts.ensures _ refl c.args.symbols.now c.args.strings.now c.args.numbers.now c.args.automata.now c.args.constraints.now).1.1.0
-
-pub returns-in-Counts-clause-numbers_after : goal.returns-in-Counts-clause-numbers_after
-returns-in-Counts-clause-numbers_after c =
-    (read-counted _ _ c.in-Counts.ensures _ refl c.args.symbols.now c.args.strings.now c.args.numbers.now c.args.automata.now c.args.constraints.now).1.1.1.0
-
-pub returns-in-Counts-clause-automata_after : goal.returns-in-Counts-clause-automata_after
-returns-in-Counts-clause-automata_after c =
-    (read-counted _ _ c.in-Counts.ensures _ refl c.args.symbols.now c.args.strings.now c.args.numbers.now c.args.automata.now c.args.constraints.now).1.1.1.1.0
-
-pub returns-in-Counts-clause-constraints_after : goal.returns-in-Counts-clause-constraints_after
-returns-in-Counts-clause-constraints_after c =
-    (read-counted _ _ c.in-Counts.ensures _ refl c.args.symbols.now c.args.strings.now c.args.numbers.now c.args.automata.now c.args.constraints.now).1.1.1.1.1
+pub returns-in-Ok : goal.returns-in-Ok
+unfolding header_of
+returns-in-Ok c =
+    let told = c.in-Ok.ensures in
+    record {
+      value = answered-number _ _ told;
+      symbols_after = answered-written _ _ told _ _;
+      strings_after = answered-written _ _ told _ _;
+      numbers_after = answered-written _ _ told _ _;
+      automata_after = answered-written _ _ told _ _;
+      constraints_after = answered-written _ _ told _ _;
+    }

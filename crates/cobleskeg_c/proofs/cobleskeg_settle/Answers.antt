@@ -1,27 +1,14 @@
-use mathlib.Core.Path.{refl}
-use Rattle.cobleskeg_c.proofs.EntryLaws.{settle-refused, settle-settled}
+use Rattle.std.proofs.Common.{rules, ◌∙◌}
+use Rattle.cobleskeg_c.proofs.ReturnLaws.{refused-number, refused-stays, answered-number, answered-written}
+use Rattle.cobleskeg_c.proofs.EntryLaws.{byte_bit}
 use Rattle.cobleskeg_c.proofs.cobleskeg_settle.Goals as goal
 
-pub returns-in-Refused-clause-value : goal.returns-in-Refused-clause-value
-returns-in-Refused-clause-value c =
-    (settle-refused _ _ _ c.in-Refused.ensures.result_after c.args.rounds.now c.args.every_value.now _ refl).0
+pub returns-in-Err : goal.returns-in-Err
+returns-in-Err c =
+    let told = c.in-Err.ensures.result_after in
+    record { value = c.number.ensures ∙ refused-number _ _ told; table_after = c.in-Err.ensures.table_after; rounds_after = refused-stays _ _ told _ _; every_value_after = refused-stays _ _ told _ _ }
 
-pub returns-in-Refused-clause-rounds_after : goal.returns-in-Refused-clause-rounds_after
-returns-in-Refused-clause-rounds_after c =
-    (settle-refused _ _ _ c.in-Refused.ensures.result_after c.args.rounds.now c.args.every_value.now _ refl).1.0
-
-pub returns-in-Refused-clause-every_value_after : goal.returns-in-Refused-clause-every_value_after
-returns-in-Refused-clause-every_value_after c =
-    (settle-refused _ _ _ c.in-Refused.ensures.result_after c.args.rounds.now c.args.every_value.now _ refl).1.1
-
-pub returns-in-Settled-clause-value : goal.returns-in-Settled-clause-value
-returns-in-Settled-clause-value c =
-    (settle-settled _ _ _ c.in-Settled.ensures.result_after c.args.rounds.now c.args.every_value.now _ refl).0
-
-pub returns-in-Settled-clause-rounds_after : goal.returns-in-Settled-clause-rounds_after
-returns-in-Settled-clause-rounds_after c =
-    (settle-settled _ _ _ c.in-Settled.ensures.result_after c.args.rounds.now c.args.every_value.now _ refl).1.0
-
-pub returns-in-Settled-clause-every_value_after : goal.returns-in-Settled-clause-every_value_after
-returns-in-Settled-clause-every_value_after c =
-    (settle-settled _ _ _ c.in-Settled.ensures.result_after c.args.rounds.now c.args.every_value.now _ refl).1.1
+pub returns-in-Ok : goal.returns-in-Ok
+returns-in-Ok c =
+    let told = c.in-Ok.ensures.result_after in
+    record { value = answered-number _ _ told; table_after = c.in-Ok.ensures.table_after; rounds_after = answered-written _ _ told _ _; every_value_after = byte_bit _ ∙ answered-written _ _ told _ _ }

@@ -1,36 +1,19 @@
-use mathlib.Core.Path.{refl}
-use Rattle.cobleskeg_c.proofs.ZeroLaws.{reading-numbered, settle-by-index-numbered}
-use Rattle.cobleskeg_c.proofs.EntryLaws.{by-index-refused, by-index-settled}
+use Rattle.std.proofs.Common.{rules, ◌∙◌}
+use Rattle.cobleskeg_c.proofs.ReturnLaws.{refused-number, refused-stays, answered-number, answered-written}
+use Rattle.std.proofs.Common.{arith, ap, refl}
+use Rattle.refusals.proofs.NumberLaws.{number-some}
+use Rattle.cobleskeg_c.specs.Numbers.{bit_of}
+use Rattle.cobleskeg_c.proofs.EntryLaws.{byte_bit}
 use Rattle.cobleskeg_c.proofs.cobleskeg_settle_by_index.Goals as goal
 
-pub returns-in-Refused-clause-value : goal.returns-in-Refused-clause-value
-returns-in-Refused-clause-value c =
-    (by-index-refused _ _ _ _ _ c.in-Refused.ensures.result_after c.in-Refused.ensures.settles_alike c.args.steps.now c.args.every_value.now (settle-by-index-numbered _ (reading-numbered _) _ _) _ refl).0
+pub returns-in-Err : goal.returns-in-Err
+returns-in-Err c =
+    let told = c.in-Err.ensures.result_after in
+    let some = number-some c.in-Err.e in
+    record { value = c.number.ensures ∙ refused-number _ _ told; table_after = c.in-Err.ensures.table_after; steps_after = refused-stays _ _ told _ _; every_value_after = refused-stays _ _ told _ _; settled_alike = λ z. absurd (omega (arith, c.number.ensures)) }
 
-pub returns-in-Refused-clause-steps_after : goal.returns-in-Refused-clause-steps_after
-returns-in-Refused-clause-steps_after c =
-    (by-index-refused _ _ _ _ _ c.in-Refused.ensures.result_after c.in-Refused.ensures.settles_alike c.args.steps.now c.args.every_value.now (settle-by-index-numbered _ (reading-numbered _) _ _) _ refl).1.0
-
-pub returns-in-Refused-clause-every_value_after : goal.returns-in-Refused-clause-every_value_after
-returns-in-Refused-clause-every_value_after c =
-    (by-index-refused _ _ _ _ _ c.in-Refused.ensures.result_after c.in-Refused.ensures.settles_alike c.args.steps.now c.args.every_value.now (settle-by-index-numbered _ (reading-numbered _) _ _) _ refl).1.1.0
-
-pub returns-in-Refused-clause-settled_alike : goal.returns-in-Refused-clause-settled_alike
-returns-in-Refused-clause-settled_alike c =
-    (by-index-refused _ _ _ _ _ c.in-Refused.ensures.result_after c.in-Refused.ensures.settles_alike c.args.steps.now c.args.every_value.now (settle-by-index-numbered _ (reading-numbered _) _ _) _ refl).1.1.1
-
-pub returns-in-Settled-clause-value : goal.returns-in-Settled-clause-value
-returns-in-Settled-clause-value c =
-    (by-index-settled _ _ _ _ _ c.in-Settled.ensures.result_after c.in-Settled.ensures.settles_alike c.args.steps.now c.args.every_value.now _ refl).0
-
-pub returns-in-Settled-clause-steps_after : goal.returns-in-Settled-clause-steps_after
-returns-in-Settled-clause-steps_after c =
-    (by-index-settled _ _ _ _ _ c.in-Settled.ensures.result_after c.in-Settled.ensures.settles_alike c.args.steps.now c.args.every_value.now _ refl).1.0
-
-pub returns-in-Settled-clause-every_value_after : goal.returns-in-Settled-clause-every_value_after
-returns-in-Settled-clause-every_value_after c =
-    (by-index-settled _ _ _ _ _ c.in-Settled.ensures.result_after c.in-Settled.ensures.settles_alike c.args.steps.now c.args.every_value.now _ refl).1.1.0
-
-pub returns-in-Settled-clause-settled_alike : goal.returns-in-Settled-clause-settled_alike
-returns-in-Settled-clause-settled_alike c =
-    (by-index-settled _ _ _ _ _ c.in-Settled.ensures.result_after c.in-Settled.ensures.settles_alike c.args.steps.now c.args.every_value.now _ refl).1.1.1
+pub returns-in-Ok : goal.returns-in-Ok
+returns-in-Ok c =
+    let told = c.in-Ok.ensures.result_after in
+    let m = c.in-Ok.ensures.settles_alike _ refl in
+    record { value = answered-number _ _ told; table_after = c.in-Ok.ensures.table_after; steps_after = answered-written _ _ told _ _; every_value_after = byte_bit _ ∙ answered-written _ _ told _ _; settled_alike = λ z. (m.0, m.1, m.2, byte_bit _ ∙ ap bit_of m.3) }

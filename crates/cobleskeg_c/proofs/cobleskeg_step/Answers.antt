@@ -1,19 +1,13 @@
-use mathlib.Core.Path.{refl}
-use Rattle.cobleskeg_c.proofs.EntryLaws.{step-refused, step-struck}
+use Rattle.std.proofs.Common.{rules, ◌∙◌}
+use Rattle.cobleskeg_c.proofs.ReturnLaws.{refused-number, refused-stays, answered-number, answered-written}
 use Rattle.cobleskeg_c.proofs.cobleskeg_step.Goals as goal
 
-pub returns-in-Refused-clause-value : goal.returns-in-Refused-clause-value
-returns-in-Refused-clause-value c =
-    (step-refused _ _ _ c.in-Refused.ensures.result_after _ c.args.struck.now refl).0
+pub returns-in-Err : goal.returns-in-Err
+returns-in-Err c =
+    let told = c.in-Err.ensures.result_after in
+    record { value = c.number.ensures ∙ refused-number _ _ told; table_after = c.in-Err.ensures.table_after; struck_after = refused-stays _ _ told _ _ }
 
-pub returns-in-Refused-clause-struck_after : goal.returns-in-Refused-clause-struck_after
-returns-in-Refused-clause-struck_after c =
-    (step-refused _ _ _ c.in-Refused.ensures.result_after _ c.args.struck.now refl).1
-
-pub returns-in-Struck-clause-value : goal.returns-in-Struck-clause-value
-returns-in-Struck-clause-value c =
-    (step-struck _ _ _ c.in-Struck.ensures.result_after _ c.args.struck.now refl).0
-
-pub returns-in-Struck-clause-struck_after : goal.returns-in-Struck-clause-struck_after
-returns-in-Struck-clause-struck_after c =
-    (step-struck _ _ _ c.in-Struck.ensures.result_after _ c.args.struck.now refl).1
+pub returns-in-Ok : goal.returns-in-Ok
+returns-in-Ok c =
+    let told = c.in-Ok.ensures.result_after in
+    record { value = answered-number _ _ told; table_after = c.in-Ok.ensures.table_after; struck_after = answered-written _ _ told _ _ }

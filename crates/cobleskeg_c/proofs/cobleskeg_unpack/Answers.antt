@@ -1,9 +1,13 @@
-use mathlib.Core.Path.{refl}
-use Rattle.cobleskeg_c.proofs.EntryLaws.{unpack-refused, unpack-written}
+use Rattle.std.proofs.Common.{rules, ◌∙◌}
+use Rattle.cobleskeg_c.proofs.ReturnLaws.{refused-number, refused-stays, answered-number, answered-written}
 use Rattle.cobleskeg_c.proofs.cobleskeg_unpack.Goals as goal
 
-pub returns-in-Refused-clause-value : goal.returns-in-Refused-clause-value
-returns-in-Refused-clause-value c = unpack-refused _ _ _ c.in-Refused.ensures.result_after _ refl
+pub returns-in-Err : goal.returns-in-Err
+returns-in-Err c =
+    let told = c.in-Err.ensures.result_after in
+    record { value = c.number.ensures ∙ refused-number _ _ told; table_after = c.in-Err.ensures.table_after }
 
-pub returns-in-Unpacked-clause-value : goal.returns-in-Unpacked-clause-value
-returns-in-Unpacked-clause-value c = unpack-written _ _ _ c.in-Unpacked.ensures.result_after refl
+pub returns-in-Ok : goal.returns-in-Ok
+returns-in-Ok c =
+    let told = c.in-Ok.ensures.result_after in
+    record { value = answered-number _ _ told; table_after = c.in-Ok.ensures.table_after }

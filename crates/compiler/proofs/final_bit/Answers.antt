@@ -1,9 +1,11 @@
-use mathlib.Core.Path.{sym, ◌∙◌}
-use Rattle.parser.proofs.Bytes.{when_true, when_false}
+use Rattle.std.proofs.Common.{sym, ◌∙◌}
+use Rattle.model.specs.PatternStates.{when}
 use Rattle.compiler.proofs.final_bit.Goals as goal
 
 pub returns-then-is_final : goal.returns-then-is_final
-returns-then-is_final c = c.singleton.ensures ∙ when_true _ _ (sym c.is_final.ensures ∙ c.if-is_final.true)
+unfolding when
+returns-then-is_final c = rw (sym c.is_final.ensures ∙ c.if-is_final.true) c.singleton.ensures
 
-pub returns : goal.returns
-returns c = when_false _ _ (sym c.is_final.ensures ∙ c.if-is_final.false)
+pub returns-else-is_final : goal.returns-else-is_final
+unfolding when
+returns-else-is_final c = rw (sym c.is_final.ensures ∙ c.if-is_final.false)

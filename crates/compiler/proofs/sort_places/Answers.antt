@@ -1,21 +1,18 @@
-use Rattle.std.proofs.Common.{arith, rules}
+use Rattle.std.proofs.Common.{arith, refl}
 use Rattle.compiler.proofs.SortLaws.{symbol-below, sorted_start, sorted_step}
 use Rattle.compiler.proofs.sort_places.Goals as goal
 
 pub loop-p-init : goal.loop-p-init
-loop-p-init c = (search rules, sorted_start _ _ c.requires)
+loop-p-init c = sorted_start _ _ refl
 
-pub offset_bounds-places-a : goal.offset_bounds-places-a
-offset_bounds-places-a c = let l = symbol-below _ _ _ c.symbol_at-a.ensures in omega arith
+pub offset_bounds-places-symbol_at : goal.offset_bounds-places-symbol_at
+offset_bounds-places-symbol_at c = let l = symbol-below _ _ _ c.symbol_at.ensures in omega arith
 
-pub bounds-places-a : goal.bounds-places-a
-bounds-places-a c = let z = c.loop-p.invariant.1.size in let l = symbol-below _ _ _ c.symbol_at-a.ensures in omega arith
+pub bounds-places-symbol_at : goal.bounds-places-symbol_at
+bounds-places-symbol_at c = symbol-below _ _ _ c.symbol_at.ensures
 
-pub offset_bounds-places-a-in-loop-p : goal.offset_bounds-places-a-in-loop-p
-offset_bounds-places-a-in-loop-p c = let l = symbol-below _ _ _ c.symbol_at-a.ensures in omega arith
-
-pub bounds-places-a-in-loop-p : goal.bounds-places-a-in-loop-p
-bounds-places-a-in-loop-p c = let z = c.loop-p.invariant.1.size in let l = symbol-below _ _ _ c.symbol_at-a.ensures in omega arith
+pub bounds-places-symbol_at-in-loop-p : goal.bounds-places-symbol_at-in-loop-p
+bounds-places-symbol_at-in-loop-p c = symbol-below _ _ _ c.symbol_at.ensures
 
 pub loop-p-preserved : goal.loop-p-preserved
-loop-p-preserved c = (search rules, sorted_step _ _ _ _ _ c.loop-p.invariant.1 c.symbol_at-a.ensures c.singleton.ensures)
+loop-p-preserved c = sorted_step _ _ _ _ _ c.loop-p.invariant c.symbol_at.ensures c.singleton.ensures

@@ -1,8 +1,8 @@
-use Rattle.compiler.proofs.SortLaws.{symbol_in, symbol-past}
+use Rattle.compiler.proofs.SortLaws.{symbol-in, symbol-past}
 use Rattle.compiler.proofs.symbol_at.Goals as goal
 
-pub returns-then-p-s : goal.returns-then-p-s
-returns-then-p-s c = symbol_in _ _ _ c.symbol_of.ensures
+pub returns-in-Some : goal.returns-in-Some
+returns-in-Some c = symbol-in _ _ _ _ (c.in-Some.ensures.lookup.3.1 0) c.symbol_of.ensures
 
-pub returns : goal.returns
-returns c = symbol-past _ _ c.if-p-s.false
+pub returns-in-None : goal.returns-in-None
+returns-in-None c = symbol-past _ _ c.in-None.ensures.lookup.3

@@ -1,18 +1,16 @@
-use Rattle.std.proofs.Common.{rules}
-use mathlib.Core.Path.{sym, ◌∙◌}
-use Rattle.index.proofs.LentLaws.{agree-step, agree-all, disagree, lent_length, lent-here}
+use Rattle.std.proofs.Common.{arith, rules, refl, sym, ◌∙◌, ◌≡◌, ◌≢◌, length}
+use Rattle.std.proofs.lemmas.Iterator.{YieldsList-from_range, cases_from_all}
+use Rattle.model.specs.Words.{word}
+use Rattle.model.specs.StepIndex.{index_of}
+use Rattle.format.specs.Problems.{the_problem}
+use Rattle.index.proofs.LentLaws.{lent_length, same_by}
 use Rattle.index.proofs.is_of_file.Goals as goal
-
-pub returns-then-index-i : goal.returns-then-index-i
-returns-then-index-i c =
-    let e = lent-here _ _ c.requires.0 _ _ _ c.lent_word.ensures c.of_file-ix.ensures in
-    sym (disagree _ _ _ (λ q. c.if-index-i.true (q ∙ sym e)))
-
-pub loop-i-preserved : goal.loop-i-preserved
-loop-i-preserved c =
-    let e = lent-here _ _ c.requires.0 _ _ _ c.lent_word.ensures c.of_file-ix.ensures in
-    (search rules, agree-step _ _ _ (c.if-index-i.false ∙ e) c.loop-i.invariant.1)
 
 pub returns : goal.returns
 returns c =
-    sym (agree-all _ _ _ (c.requires.1 ∙ sym (lent_length _ _ c.requires.0)) (search rules) c.loop-i.invariant.1)
+    let p = c.args.p.now in
+    let I = c.args.index.now in
+    same_by I (index_of (the_problem p)) _ (c.requires ∙ sym (lent_length p))
+    (cases_from_all _ _ _ (λ i. word I i ≡ word (index_of (the_problem p)) i) (λ i. word I i ≢ word (index_of (the_problem p)) i) c.all.ensures.ran
+    (YieldsList-from_range 0 (length I) (length I) refl (omega arith))
+    (λ x q k. search rules) (λ x q k. search rules))

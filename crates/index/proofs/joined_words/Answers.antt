@@ -1,38 +1,34 @@
-use Rattle.std.proofs.Common.{arith, rules}
-use Prim.Native.Nat.{◌+◌, ◌*◌, ◌<◌}
-use mathlib.Core.Path.{◌≡◌, refl}
-use lib.ListN.{length}
+use Rattle.std.proofs.Common.{rules}
+use Prim.Native.Nat.{◌+◌, ◌*◌}
+use mathlib.Core.Path.{refl}
 use Rattle.model.specs.Words.{word, union}
 use Rattle.index.proofs.StandingLaws.{next-lent, union-step}
 use Rattle.index.proofs.joined_words.Goals as goal
 
-pub loop-j-init : goal.loop-j-init
+pub loop-i-init : goal.loop-i-init
 unfolding union
-loop-j-init c = (search rules, refl)
+loop-i-init c = refl
 
 pub overflow_mul-w : goal.overflow_mul-w
 overflow_mul-w c =
-    let k = next-lent c.args.m _ (search rules) c.requires.1 _ c.loop-j-test.true in
+    let k = next-lent _ _ _ c.listed-i-items.ensures c.requires.1 _ c.loop-i-test.true in
     search rules
 
 pub overflow_add-w : goal.overflow_add-w
 overflow_add-w c =
-    let k = next-lent c.args.m _ (search rules) c.requires.1 _ c.loop-j-test.true in
+    let k = next-lent _ _ _ c.listed-i-items.ensures c.requires.1 _ c.loop-i-test.true in
     search rules
 
-pub offset_bounds-index-at : goal.offset_bounds-index-at
-offset_bounds-index-at c =
-    let k = next-lent c.args.m _ (search rules) c.requires.1 _ c.loop-j-test.true in
+pub offset_bounds-index-i : goal.offset_bounds-index-i
+offset_bounds-index-i c =
+    let k = next-lent _ _ _ c.listed-i-items.ensures c.requires.1 _ c.loop-i-test.true in
     search rules
 
-pub bounds-index-at : goal.bounds-index-at
-bounds-index-at c =
-    let k = next-lent c.args.m _ (search rules) c.requires.1 _ c.loop-j-test.true in
+pub bounds-index-i : goal.bounds-index-i
+bounds-index-i c =
+    let k = next-lent _ _ _ c.listed-i-items.ensures c.requires.1 _ c.loop-i-test.true in
     search rules
 
-pub loop-j-preserved : goal.loop-j-preserved
-loop-j-preserved c =
-    let a = c.args in
-    let n : length a.m.at ≡ 3 = search rules in
-    let less : c.loop-j.j < length a.m.at = omega (arith, c.requires.1.most, c.loop-j-test.true) in
-    (search rules, union-step (λ i. word a.index.now (2 * i + a.h)) a.m.at c.loop-j.j _ less c.loop-j.invariant.1)
+pub loop-i-preserved : goal.loop-i-preserved
+loop-i-preserved c =
+    union-step (λ i. word c.args.index.now (2 * i + c.args.h)) _ _ _ c.loop-i-test.true c.loop-i.invariant

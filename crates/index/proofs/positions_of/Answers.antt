@@ -1,34 +1,25 @@
-use Rattle.std.proofs.Common.{arith}
-use mathlib.Core.Path.{refl}
-use Rattle.index.specs.Index.{position}
-use Rattle.index.proofs.KindLaws.{names-eq, names-neq, names-rev, names-cat, names-sub, names-len, names-regular}
-use Rattle.index.proofs.StandingLaws.{standing}
+use Rattle.std.proofs.Common.{arith, rules}
+use Rattle.index.proofs.StandingLaws.{number-room, strings-standing, number-standing}
 use Rattle.index.proofs.positions_of.Goals as goal
+use Rattle.index.proofs.positions_of.Goals.{in-Some, in_default}
 
-pub returns-in-Eq : goal.returns-in-Eq
-unfolding position
-returns-in-Eq c = standing _ (names-eq c.in-Eq.is) (omega arith) refl c.first.ensures
+pub bounds-at-count : goal.bounds-at-count
+bounds-at-count c =
+    number-room c.args.s _ c.names-names.result (search rules) c.names-names.ensures.0 c.in-Some.is
 
-pub returns-in-Neq : goal.returns-in-Neq
-unfolding position
-returns-in-Neq c = standing _ (names-neq c.in-Neq.is) (omega arith) refl c.first-in-Neq.ensures
+pub invariant_of-result : goal.invariant_of-result
+invariant_of-result c =
+    let names = c.names-names.result in
+    elim c.match-names.branch [
+      | in-Some w ↦ record { few = (let room = number-room c.args.s _ names (search rules) c.names-names.ensures.0 w.in-Some.is in omega (arith, w.count-is)) }
+      | in_default w ↦ record { few = omega (arith, w.count-is, names.most) }
+    ]
 
-pub returns-in-Rev : goal.returns-in-Rev
-unfolding position
-returns-in-Rev c = standing _ (names-rev c.in-Rev.is) (omega arith) refl c.first-in-Rev.ensures
-
-pub returns-in-Cat : goal.returns-in-Cat
-unfolding position
-returns-in-Cat c = standing _ (names-cat c.in-Cat.is) (omega arith) refl c.first-in-Cat.ensures
-
-pub returns-in-Sub : goal.returns-in-Sub
-unfolding position
-returns-in-Sub c = standing _ (names-sub c.in-Sub.is) (omega arith) refl c.first-in-Sub.ensures
-
-pub returns-in-Len : goal.returns-in-Len
-unfolding position
-returns-in-Len c = standing _ (names-len c.in-Len.is) (omega arith) refl c.first-in-Len.ensures
-
-pub returns-in-Regular : goal.returns-in-Regular
-unfolding position
-returns-in-Regular c = standing _ (names-regular c.in-Regular.is) (omega arith) refl c.first-in-Regular.ensures
+pub returns : goal.returns
+returns c =
+    let names = c.names-names.result in
+    let e = c.names-names.ensures.0 in
+    elim c.match-names.branch [
+      | in-Some w ↦ record { are = number-standing _ _ names (search rules) e _ _ _ w.in-Some.is w.at-is w.count-is }
+      | in_default w ↦ record { are = strings-standing _ _ names (search rules) e _ _ (search rules) w.at-is w.count-is }
+    ]

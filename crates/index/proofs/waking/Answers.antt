@@ -1,95 +1,46 @@
-use Rattle.index.specs.Index.{position}
-use Rattle.index.proofs.KindLaws.{one_inside, two-inside, three-inside, union-one, union-two, union-three}
-use Rattle.index.proofs.KindLaws.{names-eq, names-neq, names-rev, names-cat, names-sub, names-len, names-regular}
+use Rattle.std.proofs.Common.{arith, rules, refl, ◌<◌, [], ◌∷◌, length-append}
+use Rattle.std.proofs.lemmas.Slice.Zip.{zip_turn, zip_end}
+use Rattle.laws.proofs.ListLaws.{get_or_in}
+use Rattle.index.specs.Standing.{listed}
+use Rattle.index.proofs.KindLaws.{standing-inside}
+use Rattle.index.proofs.WakingLaws.{woken_start, woken_more, woken_same, woken_end}
 use Rattle.index.proofs.waking.Goals as goal
 
-pub two-requires : goal.two-requires
-unfolding position
-two-requires c =
-    let pre = c.requires in
-    let i = two-inside pre.2 (names-eq c.in-Eq.is) in
-    (pre.0, i.0, i.1)
+pub loop-i-init : goal.loop-i-init
+loop-i-init c = (search rules, search rules, woken_start _ _ _ _)
 
-pub two-requires-in-Neq : goal.two-requires-in-Neq
-unfolding position
-two-requires-in-Neq c =
-    let pre = c.requires in
-    let i = two-inside pre.2 (names-neq c.in-Neq.is) in
-    (pre.0, i.0, i.1)
+pub offset_bounds-ix-i : goal.offset_bounds-ix-i
+offset_bounds-ix-i c =
+    let t = zip_turn (listed c.positions_of.result) _ _ _ _ c.next.new.self _ (search rules) refl c.loop-i.yielded_by _ c.in-Some.is c.next.ensures.steps in
+    let h = standing-inside _ _ _ c.requires.1 c.positions_of.ensures _ (get_or_in _ _ 0 t.0) in
+    let l : c.in-Some.field-0-0.now < 32 = omega (arith, t.2 0) in
+    search rules
 
-pub two-requires-in-Rev : goal.two-requires-in-Rev
-unfolding position
-two-requires-in-Rev c =
-    let pre = c.requires in
-    let i = two-inside pre.2 (names-rev c.in-Rev.is) in
-    (pre.0, i.0, i.1)
+pub bounds-ix-i : goal.bounds-ix-i
+bounds-ix-i c =
+    let t = zip_turn (listed c.positions_of.result) _ _ _ _ c.next.new.self _ (search rules) refl c.loop-i.yielded_by _ c.in-Some.is c.next.ensures.steps in
+    rw (t.2 0) (standing-inside _ _ _ c.requires.1 c.positions_of.ensures _ (get_or_in _ _ 0 t.0))
 
-pub three-requires : goal.three-requires
-unfolding position
-three-requires c =
-    let pre = c.requires in
-    let i = three-inside pre.2 (names-cat c.in-Cat.is) in
-    (pre.0, i.0, i.1, i.2)
+pub loop-i-preserved-then-changed : goal.loop-i-preserved-then-changed
+loop-i-preserved-then-changed c =
+    let n = c.args.changed in
+    let t = zip_turn (listed c.positions_of.result) (n.x ∷ n.y ∷ n.z ∷ []) _ _ _ c.next.new.self _ (search rules) (search rules) c.loop-i.yielded_by _ c.in-Some.is c.next.ensures.steps in (
+      search rules,
+      search rules,
+      woken_more _ _ _ _ _ c.positions_of.ensures _ _ c.loop-i.invariant.2 _ _ t.0 t.1 (t.2 0) (t.3 _) _ (omega (arith, length-append c.loop-i.yielded)) c.if-changed.true,
+    )
 
-pub three-requires-in-Sub : goal.three-requires-in-Sub
-unfolding position
-three-requires-in-Sub c =
-    let pre = c.requires in
-    let i = three-inside pre.2 (names-sub c.in-Sub.is) in
-    (pre.0, i.0, i.1, i.2)
+pub loop-i-preserved : goal.loop-i-preserved
+loop-i-preserved c =
+    let n = c.args.changed in
+    let t = zip_turn (listed c.positions_of.result) (n.x ∷ n.y ∷ n.z ∷ []) _ _ _ c.next.new.self _ (search rules) (search rules) c.loop-i.yielded_by _ c.in-Some.is c.next.ensures.steps in (
+      search rules,
+      search rules,
+      woken_same _ _ _ _ _ c.positions_of.ensures _ _ c.loop-i.invariant.2 _ _ t.0 t.1 (t.2 0) (t.3 _) _ (omega (arith, length-append c.loop-i.yielded)) c.if-changed.false,
+    )
 
-pub two-requires-in-Len : goal.two-requires-in-Len
-unfolding position
-two-requires-in-Len c =
-    let pre = c.requires in
-    let i = two-inside pre.2 (names-len c.in-Len.is) in
-    (pre.0, i.0, i.1)
-
-pub if_changed-requires : goal.if_changed-requires
-unfolding position
-if_changed-requires c =
-    let pre = c.requires in
-    let i = one_inside pre.2 (names-regular c.in-Regular.is) in
-    (pre.0, i)
-
-pub returns-in-Eq : goal.returns-in-Eq
-unfolding position
-returns-in-Eq c =
-    let a = c.args in
-    union-two a.s a.ix.now a.n (names-eq c.in-Eq.is) c.two.ensures
-
-pub returns-in-Neq : goal.returns-in-Neq
-unfolding position
-returns-in-Neq c =
-    let a = c.args in
-    union-two a.s a.ix.now a.n (names-neq c.in-Neq.is) c.two-in-Neq.ensures
-
-pub returns-in-Rev : goal.returns-in-Rev
-unfolding position
-returns-in-Rev c =
-    let a = c.args in
-    union-two a.s a.ix.now a.n (names-rev c.in-Rev.is) c.two-in-Rev.ensures
-
-pub returns-in-Cat : goal.returns-in-Cat
-unfolding position
-returns-in-Cat c =
-    let a = c.args in
-    union-three a.s a.ix.now a.n (names-cat c.in-Cat.is) c.three.ensures
-
-pub returns-in-Sub : goal.returns-in-Sub
-unfolding position
-returns-in-Sub c =
-    let a = c.args in
-    union-three a.s a.ix.now a.n (names-sub c.in-Sub.is) c.three-in-Sub.ensures
-
-pub returns-in-Len : goal.returns-in-Len
-unfolding position
-returns-in-Len c =
-    let a = c.args in
-    union-two a.s a.ix.now a.n (names-len c.in-Len.is) c.two-in-Len.ensures
-
-pub returns-in-Regular : goal.returns-in-Regular
-unfolding position
-returns-in-Regular c =
-    let a = c.args in
-    union-one a.s a.ix.now a.n (names-regular c.in-Regular.is) c.if_changed.ensures
+pub returns : goal.returns
+returns c =
+    let n = c.args.changed in
+    woken_end _ _ _ _ _ c.positions_of.ensures _ _ c.loop-i.invariant.2
+    (zip_end (listed c.positions_of.result) (n.x ∷ n.y ∷ n.z ∷ []) _ _ _ c.next.new.self _ (search rules) (search rules) c.loop-i.yielded_by c.in-None.is c.next.ensures.steps)

@@ -1,6 +1,6 @@
-use Rattle.std.proofs.Common.{arith, rules}
-use Rattle.inplace.proofs.Loops.{clear-turn}
+use Rattle.std.proofs.Common.{rules}
+use Rattle.inplace.proofs.Loops.{cleared_by}
 use Rattle.inplace.proofs.clear.Goals as goal
 
-pub loop-i-preserved : goal.loop-i-preserved
-loop-i-preserved c = let inv = c.loop-i.invariant in (search rules, search rules, clear-turn _ _ _ _ _ inv.0 (omega arith) inv.2)
+pub returns : goal.returns
+returns c = cleared_by _ _ _ _ (search rules) (search rules) _ (c.fill.ensures.after (λ y e. e))

@@ -1,9 +1,5 @@
-use Prim.Native.Nat.{◌-◌, ◌≤◌}
 use Rattle.inplace.specs.InTable.{Meeting}
 use Rattle.inplace.proofs.meet.Given as goal
 
 abbrev pub invariant-loop-m : goal.invariant-loop-m
-invariant-loop-m l = (l.m ≤ l.lim) × Meeting l.initial.t l.a l.b l.t l.m l.x l.y
-
-abbrev pub decreases-loop-m : goal.decreases-loop-m
-decreases-loop-m l = l.lim - l.m
+invariant-loop-m l = Meeting l.initial.t l.a l.b l.t l.m l.x l.y

@@ -1,9 +1,6 @@
-use Prim.Native.Nat.{ℕ, suc, ◌+◌, ◌-◌, ◌≤◌, ◌<◌}
+use Prim.Native.Nat.{ℕ, suc, ◌+◌, ◌<◌}
 use Rattle.model.specs.Words.{word}
 use Rattle.inplace.proofs.run.Given as goal
 
 abbrev pub invariant-loop-m : goal.invariant-loop-m
-invariant-loop-m l = (l.m ≤ l.lim) × ((i : ℕ) → i < l.m → 0 < word l.t (suc (l.a + i)))
-
-abbrev pub decreases-loop-m : goal.decreases-loop-m
-decreases-loop-m l = l.lim - l.m
+invariant-loop-m l = (i : ℕ) → i < l.m → 0 < word l.t (suc (l.a + i))

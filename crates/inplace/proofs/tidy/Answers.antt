@@ -9,9 +9,9 @@ returns-then-old-eq0 c =
 
 pub returns-then-ls-eq0 : goal.returns-then-ls-eq0
 returns-then-ls-eq0 c =
-    tidy-none _ _ (search rules) (words_of c.args.t.now (λ i. (c.slice_known-2-1.given i).fits)) _ _ c.highest.ensures c.run.ensures _ c.low_mask.ensures c.if-ls-eq0.true
+    tidy-none _ _ (search rules) (words_of c.args.t.now (λ i. search rules)) _ _ c.highest.ensures c.run.ensures _ c.low_mask.ensures c.if-ls-eq0.true
 
 pub returns : goal.returns
 returns c =
-    tidy-some _ _ (search rules) (words_of c.args.t.now (λ i. (c.slice_known-2-1.given i).fits)) _ _ c.highest.ensures c.run.ensures _ c.low_mask.ensures _
+    tidy-some _ _ (search rules) (words_of c.args.t.now (λ i. search rules)) _ _ c.highest.ensures c.run.ensures _ c.low_mask.ensures _
     c.highest-2.ensures _ c.clear.ensures

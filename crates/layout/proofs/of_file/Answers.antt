@@ -14,10 +14,10 @@ returns-then-not-in_bounds-clause-result_value c =
     unbounded_refused c.args.file.now c.if-file-lt24.false (sym c.marked.ensures ∙ c.if-not-marked.false) _ c.read-h.ensures
     (sym c.in_bounds.ensures ∙ c.if-not-in_bounds.true)
 
-pub returns-then-not-abut-clause-result_value : goal.returns-then-not-abut-clause-result_value
-returns-then-not-abut-clause-result_value c =
+pub returns-then-not-abuts-clause-result_value : goal.returns-then-not-abuts-clause-result_value
+returns-then-not-abuts-clause-result_value c =
     unfitting_refused c.args.file.now c.if-file-lt24.false (sym c.marked.ensures ∙ c.if-not-marked.false) _ c.read-h.ensures
-    (sym c.in_bounds.ensures ∙ c.if-not-in_bounds.false) (sym c.abut.ensures ∙ c.if-not-abut.true)
+    (sym c.in_bounds.ensures ∙ c.if-not-in_bounds.false) (sym c.abuts.ensures ∙ c.if-not-abuts.true)
 
 pub returns : goal.returns
 returns c =
@@ -26,7 +26,7 @@ returns c =
     let marked = sym c.marked.ensures ∙ c.if-not-marked.false in
     let read = c.read-h.ensures in
     let bounded = sym c.in_bounds.ensures ∙ c.if-not-in_bounds.false in
-    let abuts = sym c.abut.ensures ∙ c.if-not-abut.false in
+    let abuts = sym c.abuts.ensures ∙ c.if-not-abuts.false in
     rw c.place.ensures (record {
       result_value = laid-answered file long marked _ read bounded abuts;
       fitted = laid-fits file long marked _ read bounded abuts;

@@ -1,4 +1,5 @@
-use Rattle.std.proofs.Common.{arith}
+use mathlib.Core.Path.{refl}
+use Rattle.std.proofs.Common.{arith, rules}
 use Rattle.listing.proofs.ReportLaws.{printed-nothing, printed-after}
 use Rattle.listing.proofs.answer.Goals as goal
 
@@ -10,10 +11,9 @@ returns-then-lines-lt-LONGEST-clause-value c = rw (printed-nothing c.args.input.
 
 pub returns-clause-lines_after : goal.returns-clause-lines_after
 returns-clause-lines_after c =
-    let r = c.report.ensures in
-    (printed-after c.args.input.now c.args.lines.now (omega arith) _ _ r.0 r.1).0
+    let after = (printed-after c.args.input.now refl (omega arith) c.print.ensures.0 c.print.ensures.1).0 in
+    search (after, rules)
 
 pub returns-clause-value : goal.returns-clause-value
 returns-clause-value c =
-    let r = c.report.ensures in
-    (printed-after c.args.input.now c.args.lines.now (omega arith) _ _ r.0 r.1).1
+    (printed-after c.args.input.now refl (omega arith) c.print.ensures.0 c.print.ensures.1).1

@@ -19,4 +19,4 @@ slice_bounds-outcome-end-2 c =
     sym (length-take-le _ _ (omega (arith, r.0, r.1)))
 
 pub outcome-requires : goal.outcome-requires
-outcome-requires c = lent-whole c.requires.0 _ c.requires.1
+outcome-requires c = (lent-whole c.requires.0, c.requires.1)

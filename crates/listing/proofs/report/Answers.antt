@@ -1,28 +1,19 @@
-use mathlib.Core.Path.{refl}
-use Rattle.std.proofs.Common.{arith}
-use Rattle.listing.proofs.SearchedLaws.{ending_capacity}
-use Rattle.listing.proofs.ReportLaws.{longer-listing, file-listing, refused-listing, counted}
+use mathlib.Core.Path.{◌≡◌, refl, ◌∙◌}
+use Rattle.std.specs.Prelude.{Err}
+use Rattle.std.proofs.Common.{arith, rules}
+use Rattle.listing.proofs.ReportLaws.{longer-refused, file-replied, file-refused, counted}
 use Rattle.listing.proofs.report.Goals as goal
 
-pub ending-requires : goal.ending-requires
-ending-requires c = ending_capacity _ _ _ c.requires (omega arith) (omega arith)
-
 pub returns-then-input-gt-LARGEST : goal.returns-then-input-gt-LARGEST
-returns-then-input-gt-LARGEST c =
-    rw (longer-listing c.args.input.now (omega arith)) (ending_capacity _ _ _ c.requires (omega arith) (omega arith), c.ending.ensures)
+returns-then-input-gt-LARGEST c = (longer-refused c.args.input.now _ (omega arith), refl)
 
-pub ending-requires-in-Refused : goal.ending-requires-in-Refused
-ending-requires-in-Refused c =
-    ending_capacity _ _ _ c.requires (omega arith) (omega arith)
+pub returns-in_err-h : goal.returns-in_err-h
+returns-in_err-h c =
+    let same : c.from_residual.result ≡ Err c.in_err-h.field-0.0 = search rules in
+    rw same (file-replied c.args.input.now _ (omega arith) ∙ file-refused c.args.input.now _ c.in_err-h.ensures _ refl, refl)
 
 pub lend-requires : goal.lend-requires
-lend-requires c =
-    (counted _ _ c.in-Counts.ensures _ refl, c.requires)
+lend-requires c = (counted _ _ c.in_ok-h.ensures _ refl, c.requires)
 
-pub returns-in-Refused : goal.returns-in-Refused
-returns-in-Refused c =
-    rw (refused-listing c.args.input.now (omega arith) _ c.in-Refused.ensures _ refl) (ending_capacity _ _ _ c.requires (omega arith) (omega arith), c.ending-in-Refused.ensures)
-
-pub returns-in-Counts : goal.returns-in-Counts
-returns-in-Counts c =
-    rw (file-listing c.args.input.now (omega arith)) c.lend.ensures
+pub returns : goal.returns
+returns c = rw (file-replied c.args.input.now _ (omega arith)) c.lend.ensures

@@ -1,7 +1,9 @@
-use Rattle.std.proofs.Common.{arith}
-use Rattle.little.proofs.LittleLaws.{little-halves}
+use Rattle.model.specs.Layout.{part}
+use Rattle.laws.proofs.LayoutLaws.{part_length}
+use Rattle.little.proofs.LittleLaws.{little-bytes_8}
 use Rattle.little.proofs.eight.Goals as goal
 
 pub returns : goal.returns
 returns c =
-    omega (arith, c.four-first.ensures, c.four-second.ensures, little-halves c.args.at c.args.bytes.now)
+    let size = part_length c.args.at 8 c.args.bytes.now c.requires in
+    cc (little-bytes_8 (part c.args.at 8 c.args.bytes.now) size)

@@ -1,5 +1,9 @@
-use Rattle.little.proofs.LittleLaws.{little-four}
+use Rattle.model.specs.Layout.{part}
+use Rattle.laws.proofs.LayoutLaws.{part_length}
+use Rattle.little.proofs.LittleLaws.{little-bytes_4}
 use Rattle.little.proofs.four.Goals as goal
 
 pub returns : goal.returns
-returns c = little-four c.args.at c.args.bytes.now
+returns c =
+    let size = part_length c.args.at 4 c.args.bytes.now c.requires in
+    cc (little-bytes_4 (part c.args.at 4 c.args.bytes.now) size)

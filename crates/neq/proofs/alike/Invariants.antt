@@ -1,10 +1,7 @@
 use mathlib.Core.Path.{◌≡◌}
-use Prim.Native.Nat.{ℕ, suc, ◌+◌, ◌-◌, ◌≤◌, ◌<◌}
+use Prim.Native.Nat.{ℕ, suc, ◌+◌, ◌≤◌, ◌<◌}
 use Rattle.model.specs.Words.{word}
 use Rattle.neq.proofs.alike.Given as goal
 
 abbrev pub invariant-loop-i : goal.invariant-loop-i
-invariant-loop-i l = (l.start ≤ l.i) × (l.i ≤ l.l) × ((j : ℕ) → j < l.i → l.start ≤ j → word l.t (suc (l.a + j)) ≡ word l.t (suc (l.b + j)))
-
-abbrev pub decreases-loop-i : goal.decreases-loop-i
-decreases-loop-i l = l.l - l.i
+invariant-loop-i l = (j : ℕ) → j < l.i → l.start ≤ j → word l.t (suc (l.a + j)) ≡ word l.t (suc (l.b + j))

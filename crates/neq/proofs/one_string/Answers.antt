@@ -1,4 +1,4 @@
-use Rattle.std.proofs.Common.{arith, rules}
+use Rattle.std.proofs.Common.{arith}
 use mathlib.Core.Path.{◌≡◌, sym, ◌∙◌}
 use Prim.Native.Nat.{suc}
 use native.Mathlib.Numerals.{add-one}
@@ -21,13 +21,10 @@ returns-then-several-2 c =
     row-several _ _ (suc c.loop-i.i) _ c.requires.0 (omega arith) (omega arith) (sym c.several-in-loop-i.ensures ∙ c.if-several-2.true)
 
 pub loop-i-preserved : goal.loop-i-preserved
-loop-i-preserved c = (
-  search rules,
-  below_more _ _ c.loop-i.invariant.1
-      (several_false _ (simp add-one at (sym c.several-in-loop-i.ensures ∙ c.if-several-2.false))),
-)
+loop-i-preserved c =
+    below_more _ _ c.loop-i.invariant (several_false _ (simp add-one at (sym c.several-in-loop-i.ensures ∙ c.if-several-2.false)))
 
 pub returns : goal.returns
 returns c =
     let d : c.loop-i.i ≡ c.highest-top.result = omega arith in
-    row-single _ _ c.requires.0 c.requires.1 (sym c.several.ensures ∙ c.if-several.false) _ c.highest-top.ensures (λ i k. c.loop-i.invariant.1 i (omega arith))
+    row-single _ _ c.requires.0 c.requires.1 (sym c.several.ensures ∙ c.if-several.false) _ c.highest-top.ensures (λ i k. c.loop-i.invariant i (omega arith))

@@ -1,10 +1,7 @@
-use Prim.Native.Nat.{ℕ, suc, ◌+◌, ◌-◌, ◌≤◌, ◌<◌}
+use Prim.Native.Nat.{ℕ, suc, ◌+◌, ◌<◌}
 use Rattle.model.specs.Words.{word}
 use Rattle.laws.specs.Inclusion.{Single}
 use Rattle.neq.proofs.one_string.Given as goal
 
 abbrev pub invariant-loop-i : goal.invariant-loop-i
-invariant-loop-i l = (l.i ≤ l.top) × ((j : ℕ) → j < l.i → Single (word l.t (suc (l.a + j))))
-
-abbrev pub decreases-loop-i : goal.decreases-loop-i
-decreases-loop-i l = l.top - l.i
+invariant-loop-i l = (j : ℕ) → j < l.i → Single (word l.t (suc (l.a + j)))

@@ -1,16 +1,12 @@
 use Rattle.std.proofs.Common.{arith}
-use Rattle.words.proofs.EndLaws.{lowest_off}
 use Rattle.parser.proofs.Links.{link_start, link-step, link-end}
 use Rattle.parser.proofs.link.Goals as goal
 
-pub loop-rest-init : goal.loop-rest-init
-loop-rest-init c = link_start _ _ _
+pub loop-p-init : goal.loop-p-init
+loop-p-init c = rw (c.into_iter-p-iterator.ensures.into_iter_gives, c.each_bit-p-items.ensures) (link_start _ _ _)
 
-pub overflow_sub-rest : goal.overflow_sub-rest
-overflow_sub-rest c = (lowest_off _ _ _ c.lowest-p.ensures c.singleton-rest.ensures).0
-
-pub loop-rest-preserved : goal.loop-rest-preserved
-loop-rest-preserved c = link-step _ _ _ _ _ c.loop-rest.invariant (omega arith) _ _ c.lowest-p.ensures c.singleton-rest.ensures
+pub loop-p-preserved : goal.loop-p-preserved
+loop-p-preserved c = let s = c.in-Some.ensures.steps in rw s.1 (link-step _ _ _ _ _ c.loop-p.invariant (omega arith) _ s.0)
 
 pub returns : goal.returns
-returns c = link-end _ _ _ _ _ c.loop-rest.invariant (omega arith)
+returns c = link-end _ _ _ _ _ c.loop-p.invariant c.in-None.ensures.steps.0

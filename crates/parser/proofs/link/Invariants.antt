@@ -1,8 +1,5 @@
 use Rattle.parser.proofs.Links.{Linking}
 use Rattle.parser.proofs.link.Given as goal
 
-abbrev pub invariant-loop-rest : goal.invariant-loop-rest
-invariant-loop-rest l = Linking l.initial.follow l.last l.first l.rest l.follow
-
-abbrev pub decreases-loop-rest : goal.decreases-loop-rest
-decreases-loop-rest l = l.rest
+abbrev pub invariant-loop-p : goal.invariant-loop-p
+invariant-loop-p l = Linking l.initial.follow l.last l.first l.p-iterator.rest l.follow

@@ -1,11 +1,11 @@
 use Rattle.parser.proofs.ReadLaws.{text-bad, text-whole, text-more}
 use Rattle.parser.proofs.read_text.Goals as goal
 
-pub returns-in_default : goal.returns-in_default
-returns-in_default c = text-bad _ _ _ _ c.pattern.ensures.says c.in_default.is
+pub returns-in_err-a : goal.returns-in_err-a
+returns-in_err-a c = rw c.from_residual.ensures (text-bad _ _ _ _ c.pattern.ensures.says c.in_err-a.was)
 
-pub returns-then-end-s : goal.returns-then-end-s
-returns-then-end-s c = text-whole _ _ _ _ c.pattern.ensures.says _ c.in-Found.is c.if-end-s.true
+pub returns-then-a-s : goal.returns-then-a-s
+returns-then-a-s c = text-whole _ _ _ _ c.pattern.ensures.says _ c.in_ok-a.was c.if-a-s.true
 
-pub returns : goal.returns
-returns c = text-more _ _ _ _ c.pattern.ensures.says _ c.in-Found.is c.if-end-s.false
+pub returns-else-a-s : goal.returns-else-a-s
+returns-else-a-s c = text-more _ _ _ _ c.pattern.ensures.says _ c.in_ok-a.was c.if-a-s.false

@@ -1,32 +1,21 @@
-use Rattle.std.proofs.Common.{arith, rules}
-use Prim.Native.Nat.{◌+◌, ◌-◌, ◌≤◌, ◌<◌}
+use Rattle.std.proofs.Common.{rules, arith}
 use Rattle.reader.proofs.NumberLaws.{back_start, back_step, back-small}
 use Rattle.reader.proofs.number_at.Goals as goal
 
-pub loop-i-init : goal.loop-i-init
-loop-i-init c = (search rules, search rules, back_start (c.args.at + c.args.n) c.args.bytes.now)
+pub loop-byte-init : goal.loop-byte-init
+loop-byte-init c = back_start _ _ (search rules)
 
 pub overflow_mul-r : goal.overflow_mul-r
 overflow_mul-r c =
-    let few : c.loop-i.i ≤ 3 = omega arith in
-    omega (
-      arith,
-      back-small (c.args.at + c.args.n - c.loop-i.i) c.loop-i.i c.args.bytes.now
-          (λ j. (c.type_inv.bytes j).fits) few,
-    )
+    let fits = back-small c.args.at c.args.n c.args.bytes.now _ _ _ _ c.loop-byte.invariant (λ j. (c.type_inv.bytes j).fits) (search rules) (search rules)
+    c.in-Some.ensures.steps in
+    omega arith
 
 pub overflow_add-r : goal.overflow_add-r
 overflow_add-r c =
-    let at = c.args.at + c.args.n - 1 - c.loop-i.i in
-    let few : c.loop-i.i ≤ 3 = omega arith in
-    omega (
-      arith,
-      c.type_inv.bytes at,
-      back-small (c.args.at + c.args.n - c.loop-i.i) c.loop-i.i
-          c.args.bytes.now (λ j. (c.type_inv.bytes j).fits) few,
-    )
+    let fits = back-small c.args.at c.args.n c.args.bytes.now _ _ _ _ c.loop-byte.invariant (λ j. (c.type_inv.bytes j).fits) (search rules) (search rules)
+    c.in-Some.ensures.steps in
+    omega arith
 
-pub loop-i-preserved : goal.loop-i-preserved
-loop-i-preserved c =
-    let l : c.loop-i.i < c.args.at + c.args.n = omega arith in
-    (search rules, search rules, rw c.loop-i.invariant.2 (back_step _ _ _ l))
+pub loop-byte-preserved : goal.loop-byte-preserved
+loop-byte-preserved c = back_step _ _ _ _ _ c.loop-byte.invariant c.in-Some.ensures.steps

@@ -5,8 +5,8 @@ use lib.ListN.{length}
 use Rattle.records.proofs.RecordRefusalLaws.{Decodes}
 use Rattle.records.proofs.all_stand.Given as goal
 
-abbrev pub invariant-loop-r : goal.invariant-loop-r
-invariant-loop-r l = (j : ℕ) × (l.r.bytes.now ≡ l.bytes) × (l.r.at ≡ 4 * j) × Decodes l.s l.t l.d l.bytes j
+abbrev pub invariant-loop-reader : goal.invariant-loop-reader
+invariant-loop-reader l = (j : ℕ) × (l.reader.bytes.now ≡ l.bytes) × (l.reader.at ≡ 4 * j) × Decodes l.p.s l.p.t l.p.d l.bytes j
 
-abbrev pub decreases-loop-r : goal.decreases-loop-r
-decreases-loop-r l = length l.bytes - l.r.at
+abbrev pub decreases-loop-reader : goal.decreases-loop-reader
+decreases-loop-reader l = length l.bytes - l.reader.at

@@ -1,19 +1,17 @@
-use Rattle.std.proofs.Common.{rules}
-use mathlib.Core.Path.{refl, sym, ◌∙◌}
-use Rattle.records.proofs.RecordRefusalLaws.{distinct-next, eight, not_eight, never-none}
+use Rattle.std.proofs.Common.{rules, arith, ◌≡◌, refl, true, false}
+use borrow.Author.Tests.{tests}
+use Rattle.std.proofs.lemmas.Iterator.{cases_from_any, YieldsList-from_range}
+use Rattle.records.proofs.RecordRefusalLaws.{twice-at, found-any}
 use Rattle.records.proofs.repeated.Goals as goal
 
-pub returns-in_default : goal.returns-in_default
-returns-in_default c = λ cs all.
-    never-none _ _ _ _ _ cs all 7 _ _ c.loop-j-test.true c.in_default.ensures refl
-
-pub returns-then-twice : goal.returns-then-twice
-returns-then-twice c = λ cs all.
-    eight _ _ _ _ _ cs all _ _ _ c.loop-j-test.true c.in-Constraint.ensures refl (sym c.twice.ensures ∙ c.if-twice.true)
-
-pub loop-j-preserved : goal.loop-j-preserved
-loop-j-preserved c =
-    (search rules, distinct-next _ _ _ c.loop-j.invariant.1 c.in-Constraint.ensures refl (sym c.twice.ensures ∙ c.if-twice.false))
-
 pub returns : goal.returns
-returns c = λ cs all. not_eight _ _ _ _ _ cs all _ c.loop-j-test.false c.loop-j.invariant.1
+returns c = λ cs all.
+    let p = c.args.p.now in
+    let bytes = c.args.bytes.now in
+    found-any p.s p.t p.d p.c bytes cs all _ (cases_from_any _ _ _
+    (λ j. twice-at p.s p.t p.d p.c bytes cs all j ≡ true)
+    (λ j. twice-at p.s p.t p.d p.c bytes cs all j ≡ false)
+    c.any.ensures.ran
+    (YieldsList-from_range 0 p.c p.c refl (omega arith))
+    (λ j q k. search (rules, tests))
+    (λ j q k. search (rules, tests)))

@@ -1,26 +1,20 @@
-use Rattle.std.proofs.Common.{arith}
-use mathlib.Core.Path.{◌≡◌}
-use Rattle.words.proofs.EndLaws.{lowest_off}
+use Rattle.std.proofs.Common.{refl}
 use Rattle.automata.proofs.SetLaws.{walked_start, walked_end}
 use Rattle.regular.proofs.RegularLaws.{symbols-skip, symbols-add}
 use Rattle.regular.proofs.symbols.Goals as goal
-use Rattle.regular.proofs.symbols.Goals.{else-leads, then-leads}
 
-pub loop-rest-init : goal.loop-rest-init
-loop-rest-init c = walked_start _ _ _ _ (λ i t x. x.1) c.below-rest.ensures
+pub loop-s-init : goal.loop-s-init
+loop-s-init c = rw (c.into_iter-s-iterator.ensures.into_iter_gives, c.each_bit-s-items.ensures) (walked_start _ _ _ _ (λ i t x. x.1) c.below.ensures)
 
-pub overflow_sub-rest : goal.overflow_sub-rest
-overflow_sub-rest c = (lowest_off _ _ _ c.lowest-a.ensures c.singleton-alone.ensures).0
+pub loop-s-preserved-then-leads : goal.loop-s-preserved-then-leads
+loop-s-preserved-then-leads c =
+    let s = c.in-Some.ensures.steps in
+    rw s.1 (symbols-add _ _ _ _ _ _ _ _ _ _ _ _ c.loop-s.invariant s.0 refl c.leads.ensures _ c.if-leads.true c.singleton-r.ensures refl)
 
-pub loop-rest-preserved : goal.loop-rest-preserved
-loop-rest-preserved c =
-    let g = c.loop-rest.invariant in
-    let o = c.singleton-alone.ensures in
-    let x = c.leads.ensures in
-    elim c.if-leads.branch [
-      | then-leads w ↦ symbols-add _ _ _ _ _ _ _ _ _ _ _ _ g c.lowest-a.ensures o x w.if-leads.true w.r-is
-      | else-leads w ↦ symbols-skip _ _ _ _ _ _ _ _ _ _ _ _ g c.lowest-a.ensures o x w.if-leads.false w.r-is
-    ]
+pub loop-s-preserved : goal.loop-s-preserved
+loop-s-preserved c =
+    let s = c.in-Some.ensures.steps in
+    rw s.1 (symbols-skip _ _ _ _ _ _ _ _ _ _ _ _ c.loop-s.invariant s.0 refl c.leads.ensures c.if-leads.false refl)
 
 pub returns : goal.returns
-returns c = let e : c.loop-rest.rest ≡ 0 = omega arith in walked_end _ _ _ _ _ e c.loop-rest.invariant
+returns c = walked_end _ _ _ _ _ c.in-None.ensures.steps.0 c.loop-s.invariant

@@ -3,8 +3,5 @@ use Rattle.automata.proofs.SetLaws.{Walked}
 use Rattle.regular.proofs.RegularLaws.{Leading}
 use Rattle.regular.proofs.symbols.Given as goal
 
-abbrev pub invariant-loop-rest : goal.invariant-loop-rest
-invariant-loop-rest l = Walked l.k l.allowed (Leading (machine l.k l.d) (state_count l.d) l.allowed l.before l.after) l.rest l.r
-
-abbrev pub decreases-loop-rest : goal.decreases-loop-rest
-decreases-loop-rest l = l.rest
+abbrev pub invariant-loop-s : goal.invariant-loop-s
+invariant-loop-s l = Walked l.a.k l.allowed (Leading (machine l.a.k l.a.bytes.now) (state_count l.a.bytes.now) l.allowed l.before l.after) l.s-iterator.rest l.r

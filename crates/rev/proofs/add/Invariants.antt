@@ -1,9 +1,5 @@
-use Prim.Native.Nat.{◌-◌, ◌≤◌}
 use Rattle.rev.specs.Turned.{Added}
 use Rattle.rev.proofs.add.Given as goal
 
 abbrev pub invariant-loop-i : goal.invariant-loop-i
-invariant-loop-i l = (l.i ≤ l.l) × Added l.t l.a l.b l.l l.initial.r l.i l.r
-
-abbrev pub decreases-loop-i : goal.decreases-loop-i
-decreases-loop-i l = l.l - l.i
+invariant-loop-i l = Added l.t l.a l.b l.l l.initial.r l.i l.r

@@ -6,7 +6,7 @@ use Rattle.rev.proofs.narrow.Goals as goal
 
 pub returns-then-common-eq0 : goal.returns-then-common-eq0
 returns-then-common-eq0 c =
-    rev-empty _ _ _ c.requires.0 c.requires.1 (words_of c.args.t.now (λ i. search rules)) c.if-common-eq0.true _ c.nothing.ensures
+    rev-empty _ _ _ c.requires.0 c.requires.1 (words_of c.args.t.now (λ i. search rules)) c.if-common-eq0.true
 
 pub any_length-requires : goal.any_length-requires
 any_length-requires c =

@@ -1,28 +1,29 @@
-use Rattle.std.proofs.Common.{arith, rules}
+use Rattle.std.proofs.Common.{rules, refl}
 use Rattle.laws.proofs.TableLaws.{words_of}
-use Rattle.rev.proofs.OneLength.{one_none, one-first, one-second, one_left}
+use Rattle.rev.proofs.OneLength.{one_none, one_back, one-first, one-second, one_left}
 use Rattle.rev.proofs.one_length.Goals as goal
 
-pub returns-then-of_x-l : goal.returns-then-of_x-l
-returns-then-of_x-l c =
-    one_none _ _ _ _ c.requires.0 (words_of c.args.t.now (λ i. search rules)) c.requires.1 _ c.highest-l.ensures _ _ _ c.turn-of_x.ensures
-    c.if-of_x-l.true _ c.nothing.ensures
+pub returns-in_err-changed_x : goal.returns-in_err-changed_x
+returns-in_err-changed_x c =
+    rw c.from_residual.ensures (one_none _ _ _ _ c.requires.0 (words_of c.args.t.now (λ i. search rules)) c.requires.1 _ c.highest-l.ensures _
+    c.in_err-changed_x.ensures)
 
-pub shorten-shorter_x-requires : goal.shorten-shorter_x-requires
-shorten-shorter_x-requires c =
-    let g = c.if-of_x-l.false in
-    one-first _ _ _ _ c.requires.0 (words_of c.args.t.now (λ i. search rules)) c.requires.1 _ c.highest-l.ensures _ _ _ c.turn-of_x.ensures
-    (omega arith) _ _ _ c.turn-of_y.ensures
+pub unwrap-changed_y-requires : goal.unwrap-changed_y-requires
+unwrap-changed_y-requires c =
+    one_back _ _ _ _ c.requires.0 (words_of c.args.t.now (λ i. search rules)) c.requires.1 _ c.highest-l.ensures _ _ c.in_ok-changed_x.ensures _ _
+    c.turn-2.ensures
 
-pub shorten-shorter_y-requires : goal.shorten-shorter_y-requires
-shorten-shorter_y-requires c =
-    let g = c.if-of_x-l.false in
-    one-second _ _ _ _ c.requires.0 (words_of c.args.t.now (λ i. search rules)) c.requires.1 _ c.highest-l.ensures _ _ _
-    c.turn-of_x.ensures (omega arith) _ _ _ c.turn-of_y.ensures _ _ c.shorten-shorter_x.ensures
+pub shorten-changed_x-requires : goal.shorten-changed_x-requires
+shorten-changed_x-requires c =
+    one-first _ _ _ _ c.requires.0 (words_of c.args.t.now (λ i. search rules)) c.requires.1 _ c.highest-l.ensures _ _ c.in_ok-changed_x.ensures _ _
+    (rw c.unwrap-changed_y.ensures at c.turn-2.ensures)
+
+pub shorten-changed_y-requires : goal.shorten-changed_y-requires
+shorten-changed_y-requires c =
+    one-second _ _ _ _ c.requires.0 (words_of c.args.t.now (λ i. search rules)) c.requires.1 _ c.highest-l.ensures _ _ c.in_ok-changed_x.ensures _ _
+    (rw c.unwrap-changed_y.ensures at c.turn-2.ensures) _ _ c.shorten-changed_x.ensures
 
 pub returns : goal.returns
 returns c =
-    let g = c.if-of_x-l.false in
-    one_left _ _ _ _ c.requires.0 (words_of c.args.t.now (λ i. search rules)) c.requires.1 _ c.highest-l.ensures _ _ _ c.turn-of_x.ensures
-    (omega arith) _ _ _ c.turn-of_y.ensures _ _ c.shorten-shorter_x.ensures _ _ c.shorten-shorter_y.ensures
-    _ _ c.either.ensures c.either-2.ensures
+    one_left _ _ _ _ c.requires.0 (words_of c.args.t.now (λ i. search rules)) c.requires.1 _ c.highest-l.ensures _ _ c.in_ok-changed_x.ensures _ _
+    (rw c.unwrap-changed_y.ensures at c.turn-2.ensures) _ _ c.shorten-changed_x.ensures _ _ c.shorten-changed_y.ensures _ _ refl refl

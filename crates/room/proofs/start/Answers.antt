@@ -7,4 +7,4 @@ pub returns : goal.returns
 unfolding replaced
 returns c =
     let a = c.args in
-    start-tables a.m a.bytes.now a.room.now _ _ _ (search rules) c.unpack.ensures c.unpack-2.ensures c.clear.ensures
+    start-tables a.m a.bytes.now a.room.now _ _ _ (search rules) c.unpack.ensures c.unpack-2.ensures (c.fill.ensures.after (λ y e. search rules))

@@ -1,15 +1,18 @@
 use Rattle.std.proofs.Common.{rules}
+use Rattle.search.proofs.VisitLaws.{table-bytes}
 use Rattle.search.proofs.ExploreLaws.{search-standing, search-right}
-use Rattle.model.specs.Layout.{Bytes}
-use Rattle.laws.proofs.CallLaws.{lendable-length}
-use Rattle.format.proofs.ContentLaws.{usable-sound}
 use Rattle.search.proofs.search.Goals as goal
 
+pub start-requires : goal.start-requires
+start-requires c = (rw (c.table_bytes.ensures, c.words-m.ensures) (table-bytes c.args.p.now), rw c.words-m.ensures c.requires.0)
+
 pub explore-outcome-requires : goal.explore-outcome-requires
-explore-outcome-requires c =
-    let bytes : Bytes c.args.file.now = λ i. (c.type_inv.file i).fits in
-    let long = lendable-length _ _ (usable-sound _ _ c.requires.0 bytes).own-table in
-    (c.requires.0, search rules, search rules, search rules, c.of_file-ix.ensures, search-standing _ _ c.requires.0 _ _ c.start.ensures long, c.kinds.ensures)
+explore-outcome-requires c = (
+  search rules,
+  c.requires.1,
+  search-standing c.args.p.now c.args.room.now c.start.new.room (rw (c.words-m.ensures, c.table_bytes.ensures) at c.start.ensures),
+)
 
 pub returns-clause-answer_after : goal.returns-clause-answer_after
-returns-clause-answer_after c = search-right _ _ c.requires.0 _ _ c.start.ensures _ _ _ c.explore-outcome.ensures.answer_after
+returns-clause-answer_after c =
+    search-right c.args.p.now c.args.room.now c.start.new.room (rw (c.words-m.ensures, c.table_bytes.ensures) at c.start.ensures) _ _ _ c.explore-outcome.ensures.answer_after

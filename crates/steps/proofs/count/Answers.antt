@@ -1,43 +1,44 @@
-use Rattle.std.proofs.Common.{arith, rules}
-use Rattle.steps.proofs.NamingLaws.{number-inside}
+use Rattle.std.proofs.Common.{rules, take_all}
+use Rattle.steps.proofs.NamingLaws.{number-inside, three}
 use Rattle.steps.proofs.TidyLaws.{next-inside}
-use Rattle.steps.proofs.SizeLaws.{sum-start, sum-next, sum-small, sum-last, small_count}
+use Rattle.steps.proofs.SizeLaws.{sum-start, sum-next, sum-last, small_count}
 use Rattle.steps.proofs.count.Goals as goal
 
-pub loop-j-init : goal.loop-j-init
-loop-j-init c = (search rules, sum-start _ _)
+pub loop-x-init : goal.loop-x-init
+loop-x-init c = sum-start _ _
 
 pub bits-n-requires : goal.bits-n-requires
-bits-n-requires c =
-    next-inside c.args.m _ c.requires (search rules) _ c.loop-j-test.true
+bits-n-requires c = next-inside c.args.m.now _ c.requires c.strings-x-items.ensures c.loop-x.x-index (search rules)
 
 pub overflow_add-n : goal.overflow_add-n
 overflow_add-n c =
-    let z = c.requires.most in
-    let t = (sum-next c.args.m _ c.requires (search rules) _ _ _ c.loop-j-test.true c.bits-n.ensures c.loop-j.invariant.1).small in
-    let k = c.loop-j-test.true in
-    omega arith
+    let k = next-inside c.args.m.now _ c.requires c.strings-x-items.ensures c.loop-x.x-index (search rules) in
+    let t = (sum-next _ _ _ _ _ (search rules) k c.bits-n.ensures c.loop-x.invariant).small in
+    let h = three c.args.m.now c.strings-x-items.ensures in
+    search rules
 
-pub loop-j-preserved : goal.loop-j-preserved
-loop-j-preserved c =
-    (search rules, sum-next c.args.m _ c.requires (search rules) _ _ _ c.loop-j-test.true c.bits-n.ensures c.loop-j.invariant.1)
+pub loop-x-preserved : goal.loop-x-preserved
+loop-x-preserved c =
+    let k = next-inside c.args.m.now _ c.requires c.strings-x-items.ensures c.loop-x.x-index (search rules) in
+    sum-next _ _ c.loop-x.x-index _ _ (search rules) k c.bits-n.ensures c.loop-x.invariant
 
 pub offset_bounds-table-i : goal.offset_bounds-table-i
 offset_bounds-table-i c =
-    let h = number-inside c.args.m _ c.requires c.if-m.true in
+    let h = number-inside c.args.m.now _ c.requires c.in-Some.is in
     search rules
 
 pub bounds-table-i : goal.bounds-table-i
-bounds-table-i c =
-    let h = number-inside c.args.m _ c.requires c.if-m.true in
+bounds-table-i c = number-inside c.args.m.now _ c.requires c.in-Some.is
+
+pub overflow_add-n-in-Some : goal.overflow_add-n-in-Some
+overflow_add-n-in-Some c =
+    let s = c.loop-x.invariant.small in
+    let h = three c.args.m.now c.strings-x-items.ensures in
+    let b = small_count _ _ c.count-n.ensures in
     search rules
 
-pub overflow_add-n-then-m : goal.overflow_add-n-then-m
-overflow_add-n-then-m c =
-    let a = sum-small c.args.m _ c.requires (search rules) c.loop-j.j _ (omega arith) c.loop-j.invariant.1 in
-    let b = small_count _ _ c.count-n.ensures in
-    omega arith
-
-pub returns-then-m : goal.returns-then-m
-returns-then-m c =
-    sum-last c.args.m _ c.requires (search rules) c.loop-j.j _ (omega arith) c.loop-j.invariant.1 c.if-m.true _ c.count-n.ensures
+pub returns-in-Some : goal.returns-in-Some
+returns-in-Some c =
+    sum-last c.args.m.now _ _ _ c.in-Some.is
+    (rw (take_all c.loop-x.x-index c.strings-x-items.result.now (search rules), c.strings-x-items.ensures) at c.loop-x.invariant.sum)
+    _ c.count-n.ensures

@@ -5,16 +5,16 @@ use Rattle.steps.proofs.narrow_any.Goals as goal
 
 pub tidy-requires : goal.tidy-requires
 tidy-requires c =
-    step-inside _ _ _ _ (λ i. search rules) (words_of c.args.table.now (λ i. search rules)) (c.requires.0, c.requires.1, c.requires.3) _ c.requires.4
+    step-inside c.args.p.now _ _ (words_of c.args.table.now (λ i. search rules)) (c.requires.0, c.requires.2) _ c.requires.3
 
-pub returns-then-not-tidy : goal.returns-then-not-tidy
-returns-then-not-tidy c =
-    any_none _ _ _ _ (λ i. search rules) (words_of c.args.table.now (λ i. search rules)) (c.requires.0, c.requires.1, c.requires.3) _ c.requires.4 _ _ c.tidy.ensures (c.if-not-tidy.true)
+pub narrow-requires : goal.narrow-requires
+narrow-requires c =
+    narrow_asks c.args.p.now _ _ (words_of c.args.table.now (λ i. search rules)) (c.requires.0, c.requires.2) _ c.requires.3 _ _ c.tidy.ensures c.requires.1 c.if-tidy.true
 
-pub narrow-n-requires : goal.narrow-n-requires
-narrow-n-requires c =
-    narrow_asks _ _ _ _ (λ i. search rules) (words_of c.args.table.now (λ i. search rules)) (c.requires.0, c.requires.1, c.requires.3) _ c.requires.4 _ _ c.tidy.ensures c.requires.2 (c.if-not-tidy.false)
+pub returns-then-tidy : goal.returns-then-tidy
+returns-then-tidy c = rw c.is_some.ensures
+    (any-narrowed c.args.p.now _ _ (words_of c.args.table.now (λ i. search rules)) (c.requires.0, c.requires.2) _ c.requires.3 _ _ c.tidy.ensures _ _ c.narrow.ensures)
 
-pub returns : goal.returns
-returns c =
-    any-narrowed _ _ _ _ (λ i. search rules) (words_of c.args.table.now (λ i. search rules)) (c.requires.0, c.requires.1, c.requires.3) _ c.requires.4 _ _ c.tidy.ensures _ _ c.narrow-n.ensures
+pub returns-else-tidy : goal.returns-else-tidy
+returns-else-tidy c = rw c.if-tidy.false
+    (any_none c.args.p.now _ _ (words_of c.args.table.now (λ i. search rules)) (c.requires.0, c.requires.2) _ c.requires.3 _ _ c.tidy.ensures c.if-tidy.false)

@@ -1,22 +1,17 @@
 use Rattle.std.proofs.Common.{arith, rules}
-use Rattle.steps.proofs.TidyLaws.{next-inside, tidies_turn, tidies_stop, tidies_end}
+use Rattle.steps.proofs.TidyLaws.{next-inside, tidies_turn, tidies_stop}
 use Rattle.steps.proofs.tidy.Goals as goal
 
 pub tidy-requires : goal.tidy-requires
 tidy-requires c =
-    let i = c.loop-j.invariant in
-    let z = i.1 in
-    let k = next-inside c.args.m _ c.requires (search rules) _ c.loop-j-test.true in
+    let s = c.loop-x.invariant.size in
+    let k = next-inside c.args.m.now _ c.requires c.strings-x-items.ensures c.loop-x.x-index (search rules) in
     omega arith
 
 pub returns-then-not-tidy : goal.returns-then-not-tidy
 returns-then-not-tidy c =
-    tidies_stop c.args.m _ c.requires (search rules) _ c.loop-j-test.true c.loop-j.invariant.2 c.tidy.ensures (c.if-not-tidy.true)
+    tidies_stop c.args.m.now _ c.requires c.strings-x-items.ensures c.loop-x.x-index (search rules) c.loop-x.invariant c.tidy.ensures c.if-not-tidy.true
 
-pub loop-j-preserved : goal.loop-j-preserved
-loop-j-preserved c =
-    (search rules, search rules, tidies_turn c.args.m _ c.requires (search rules) _ c.loop-j-test.true c.loop-j.invariant.2 c.tidy.ensures (c.if-not-tidy.false))
-
-pub returns : goal.returns
-returns c =
-    tidies_end c.args.m _ _ c.loop-j.j (omega arith) c.loop-j.invariant.2
+pub loop-x-preserved : goal.loop-x-preserved
+loop-x-preserved c =
+    tidies_turn c.args.m.now _ c.requires c.strings-x-items.ensures c.loop-x.x-index (search rules) c.loop-x.invariant c.tidy.ensures c.if-not-tidy.false

@@ -1,27 +1,22 @@
-use Rattle.std.proofs.Common.{arith, rules}
+use Rattle.std.proofs.Common.{rules, take_all}
 use Rattle.steps.proofs.TidyLaws.{next-inside}
 use Rattle.striking.proofs.HoldingLaws.{lengths-turn, lengths-stop}
 use Rattle.striking.proofs.have_lengths.Goals as goal
 
-pub overflow_mul-strings : goal.overflow_mul-strings
-overflow_mul-strings c =
-    let k = next-inside c.args.m _ c.requires (search rules) _ c.loop-j-test.true in
-    search rules
+pub overflow_mul-x : goal.overflow_mul-x
+overflow_mul-x c = let k = next-inside c.args.m.now _ c.requires c.strings-x-items.ensures c.loop-x.x-index (search rules) in search rules
 
-pub offset_bounds-table-strings : goal.offset_bounds-table-strings
-offset_bounds-table-strings c =
-    let k = next-inside c.args.m _ c.requires (search rules) _ c.loop-j-test.true in
-    search rules
+pub offset_bounds-table-x : goal.offset_bounds-table-x
+offset_bounds-table-x c = let k = next-inside c.args.m.now _ c.requires c.strings-x-items.ensures c.loop-x.x-index (search rules) in search rules
 
-pub bounds-table-strings : goal.bounds-table-strings
-bounds-table-strings c =
-    let k = next-inside c.args.m _ c.requires (search rules) _ c.loop-j-test.true in
-    omega arith
+pub bounds-table-x : goal.bounds-table-x
+bounds-table-x c = let k = next-inside c.args.m.now _ c.requires c.strings-x-items.ensures c.loop-x.x-index (search rules) in search rules
 
-pub returns-then-table-strings-eq0 : goal.returns-then-table-strings-eq0
-returns-then-table-strings-eq0 c =
-    lengths-stop c.args.m _ c.requires (search rules) _ c.loop-j-test.true c.if-table-strings-eq0.true
+pub returns-then-table-x-eq0 : goal.returns-then-table-x-eq0
+returns-then-table-x-eq0 c = rw c.strings-x-items.ensures at (lengths-stop _ c.strings-x-items.result.now c.loop-x.x-index (search rules) c.if-table-x-eq0.true)
 
-pub loop-j-preserved : goal.loop-j-preserved
-loop-j-preserved c =
-    (search rules, lengths-turn c.args.m _ c.requires (search rules) _ c.loop-j-test.true c.if-table-strings-eq0.false c.loop-j.invariant.1)
+pub loop-x-preserved : goal.loop-x-preserved
+loop-x-preserved c = lengths-turn _ c.strings-x-items.result.now c.loop-x.x-index (search rules) c.if-table-x-eq0.false c.loop-x.invariant
+
+pub returns : goal.returns
+returns c = rw (take_all c.loop-x.x-index c.strings-x-items.result.now (search rules), c.strings-x-items.ensures) at c.loop-x.invariant

@@ -1,13 +1,11 @@
-use mathlib.Core.Path.{refl}
-use Rattle.sub.proofs.Turns.{over-start, over-turn, rest-less}
+use Rattle.std.proofs.Common.{refl}
+use Rattle.sub.proofs.Turns.{over-start, over-turn}
 use Rattle.sub.proofs.over.Goals as goal
 
-pub loop-rest-init : goal.loop-rest-init
-loop-rest-init c = over-start _ _ _ _
+pub loop-off-init : goal.loop-off-init
+loop-off-init c = rw (c.into_iter-off-iterator.ensures.into_iter_gives, c.each_bit-off-items.ensures) (over-start _ _ _ _)
 
-pub overflow_sub-rest : goal.overflow_sub-rest
-overflow_sub-rest c = (rest-less _ _ _ c.lowest-off.ensures c.singleton-rest.ensures).0
-
-pub loop-rest-preserved : goal.loop-rest-preserved
-loop-rest-preserved c =
-    over-turn _ _ _ _ _ _ _ _ _ c.loop-rest.invariant c.lowest-off.ensures c.singleton-rest.ensures refl
+pub loop-off-preserved : goal.loop-off-preserved
+loop-off-preserved c =
+    let s = c.in-Some.ensures.steps in
+    rw s.1 (over-turn _ _ _ _ _ _ _ _ c.loop-off.invariant s.0 refl)

@@ -1,19 +1,13 @@
-use Rattle.std.proofs.Common.{arith}
-use mathlib.Core.Path.{◌≡◌, sym}
-use Prim.Native.Nat.{◌*◌, ◌<◌}
+use Rattle.std.proofs.Common.{rules, ◌≡◌, ◌∙◌, ◌+◌, ◌*◌}
+use mathlib.Core.List.{map}
+use Rattle.model.specs.Layout.{little, part}
+use Rattle.model.specs.Reading.{pieces}
 use Rattle.tables.proofs.FileTable.{file-words}
-use Rattle.tables.proofs.LowLaws.{all-low, some-high}
 use Rattle.tables.proofs.file_low.Goals as goal
 
-pub returns-then-not-low_at : goal.returns-then-not-low_at
-returns-then-not-low_at c =
-    let a = c.args in
-    let w = c.eight in
-    let test : c.loop-i.i < 64 * a.s = omega arith in
-    λ t. sym (some-high a.k a.s _ _ (file-words a.s t a.bytes.now) _ _ _ test w.ensures c.low_at.ensures c.if-not-low_at.true)
-
 pub returns : goal.returns
-returns c =
+returns c = λ t.
     let a = c.args in
-    let e : c.loop-i.i ≡ 64 * a.s = omega arith in
-    λ t. sym (all-low a.k a.s _ _ (file-words a.s t a.bytes.now) (rw e at c.loop-i.invariant.1))
+    c.rows_low.ensures (map little (pieces (64 * a.s + t) 8 a.bytes.now)) (λ i w h got.
+    let word : w ≡ little (part (8 * i) 8 a.bytes.now) = search rules in
+    word ∙ file-words a.s t a.bytes.now i h)

@@ -11,10 +11,10 @@ loop-i-preserved c =
     let n = length a.table.now in
     let l = table-length n a.bytes.now in
     let e = table-word n a.bytes.now c.loop-i.i (search rules) in
-    (search rules, copied_step _ _ _ _ _ (omega arith) (search rules) (c.eight.ensures ∙ sym e) c.loop-i.invariant.1)
+    copied_step _ _ _ _ _ (omega arith) (search rules) (c.eight.ensures ∙ sym e) c.loop-i.invariant
 
 pub returns : goal.returns
 returns c =
     let a = c.args in
     let l = table-length (length a.table.now) a.bytes.now in
-    copied_all _ _ _ _ (omega arith) l c.loop-i.invariant.1
+    copied_all _ _ _ _ (omega arith) l c.loop-i.invariant

@@ -1,5 +1,4 @@
 use mathlib.Core.List.{map}
-use Prim.Native.Nat.{◌-◌, ◌≤◌}
 use lib.ListN.{length}
 use Rattle.model.specs.Layout.{little}
 use Rattle.model.specs.Reading.{pieces}
@@ -7,7 +6,4 @@ use Rattle.laws.proofs.SliceLaws.{Copied}
 use Rattle.tables.proofs.unpack.Given as goal
 
 abbrev pub invariant-loop-i : goal.invariant-loop-i
-invariant-loop-i l = (l.i ≤ l.n) × Copied (map little (pieces (length l.initial.table) 8 l.bytes)) l.initial.table l.i l.table
-
-abbrev pub decreases-loop-i : goal.decreases-loop-i
-decreases-loop-i l = l.n - l.i
+invariant-loop-i l = Copied (map little (pieces (length l.initial.table) 8 l.bytes)) l.initial.table l.i l.table

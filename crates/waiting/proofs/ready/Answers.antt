@@ -1,10 +1,8 @@
-use Rattle.std.proofs.Common.{rules}
 use Rattle.waiting.proofs.BeginLaws.{ready-whole, ready-text}
 use Rattle.waiting.proofs.ready.Goals as goal
 
-pub returns-then-from-table : goal.returns-then-from-table
-returns-then-from-table c = ready-whole _ _ _ (search rules) c.tidy_all.ensures
+pub returns-in_default : goal.returns-in_default
+returns-in_default c = ready-whole _ _ _ c.in_default.is c.tidy_all.ensures
 
-pub returns-then-from-s : goal.returns-then-from-s
-returns-then-from-s c =
-    ready-text _ _ _ (search rules) c.if-from-s.true c.requires c.tidy.ensures
+pub returns-then-at-s : goal.returns-then-at-s
+returns-then-at-s c = ready-text _ _ _ _ c.in-Some.is c.if-at-s.true c.requires c.tidy.ensures

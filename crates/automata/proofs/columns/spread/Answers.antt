@@ -1,13 +1,14 @@
-use Rattle.std.proofs.Common.{◌≡◌, arith, rules}
-use Rattle.words.proofs.EndLaws.{lowest_off}
-use Rattle.automata.proofs.KindLaws.{spread-turn, spread_end}
+use Rattle.std.proofs.Common.{refl}
+use Rattle.automata.proofs.KindLaws.{spread-start, spread-turn, spread_end}
 use Rattle.automata.proofs.columns.spread.Goals as goal
 
-pub overflow_sub-rest : goal.overflow_sub-rest
-overflow_sub-rest c = (lowest_off _ _ _ c.lowest-a.ensures c.singleton-rest.ensures).0
+pub loop-a-init : goal.loop-a-init
+loop-a-init c = rw (c.into_iter-a-iterator.ensures.into_iter_gives, c.each_bit-a-items.ensures) (spread-start _ _)
 
-pub loop-rest-preserved : goal.loop-rest-preserved
-loop-rest-preserved c = spread-turn _ _ _ _ _ _ _ (search rules) c.lowest-a.ensures c.singleton-rest.ensures c.loop-rest.invariant
+pub loop-a-preserved : goal.loop-a-preserved
+loop-a-preserved c =
+    let s = c.in-Some.ensures.steps in
+    rw s.1 (spread-turn _ _ _ _ _ _ c.requires s.0 refl c.loop-a.invariant)
 
 pub returns : goal.returns
-returns c = let e : c.loop-rest.rest ≡ 0 = omega arith in spread_end _ _ _ _ _ e c.loop-rest.invariant
+returns c = spread_end _ _ _ _ c.in-None.ensures.steps.0 c.loop-a.invariant

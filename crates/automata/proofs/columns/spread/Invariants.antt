@@ -1,8 +1,5 @@
 use Rattle.automata.proofs.KindLaws.{Spreading}
 use Rattle.automata.proofs.columns.spread.Given as goal
 
-abbrev pub invariant-loop-rest : goal.invariant-loop-rest
-invariant-loop-rest l = Spreading l.initial.ks l.at l.w l.rest l.ks
-
-abbrev pub decreases-loop-rest : goal.decreases-loop-rest
-decreases-loop-rest l = l.rest
+abbrev pub invariant-loop-a : goal.invariant-loop-a
+invariant-loop-a l = Spreading l.initial.ks l.w l.a-iterator.rest l.ks

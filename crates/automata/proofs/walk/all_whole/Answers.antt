@@ -1,20 +1,14 @@
-use Rattle.std.proofs.Common.{sym, ◌∙◌, rules}
-use Rattle.automata.proofs.AutomataWalkLaws.{present-whole, walked_stop, walked_next, walked_end}
+use Rattle.std.proofs.Common.{sym, rules}
+use Rattle.automata.proofs.AutomataWalkLaws.{walked_stop, walked_next, walked_end}
 use Rattle.automata.proofs.walk.all_whole.Goals as goal
 
-pub returns-then-not-whole : goal.returns-then-not-whole
-returns-then-not-whole c =
-    let e = sym c.whole.ensures ∙ c.if-not-whole.true in
-    sym (walked_stop _ _ _ _ _ c.loop-i.invariant (search rules) e)
-
-pub size-at-requires : goal.size-at-requires
-size-at-requires c = (search rules, present-whole _ _ (sym c.whole.ensures ∙ c.if-not-whole.false))
+pub returns-in_default : goal.returns-in_default
+returns-in_default c = sym (walked_stop _ _ _ _ _ c.loop-i.invariant c.loop-i-test.true c.in_default.ensures)
 
 pub loop-i-preserved : goal.loop-i-preserved
 loop-i-preserved c =
-    let l = c.loop-i in
-    let e = sym c.whole.ensures ∙ c.if-not-whole.false in
-    walked_next _ _ _ _ _ l.invariant (search rules) e _ c.size-at.ensures
+    let a = c.in-Some.ensures in
+    walked_next _ _ _ _ _ c.loop-i.invariant c.loop-i-test.true a.0 _ (rw (a.1, a.2) at c.size-at.ensures)
 
 pub returns : goal.returns
 returns c = walked_end _ _ _ _ _ c.loop-i.invariant (search rules)

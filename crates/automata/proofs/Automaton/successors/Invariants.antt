@@ -1,0 +1,6 @@
+use Rattle.automata.specs.Machine.{state_count, machine}
+use Rattle.automata.proofs.SetLaws.{Walked, ByState}
+use Rattle.automata.proofs.Automaton.successors.Given as goal
+
+abbrev pub invariant-loop-p : goal.invariant-loop-p
+invariant-loop-p l = Walked (state_count l.self.bytes.now) l.set (ByState (machine l.self.k l.self.bytes.now) l.self.k l.set l.symbols) l.p-iterator.rest l.r

@@ -1,6 +1,0 @@
-use Rattle.automata.proofs.KindLaws.{partly_found}
-use Rattle.automata.proofs.columns.find.Goals as goal
-
-pub returns : goal.returns
-returns c =
-    partly_found _ _ _ c.requires.0 _ _ _ c.requires.4 _ _ _ _ c.alike-w.ensures c.spread.ensures c.lacks.ensures c.note.ensures c.requires.2

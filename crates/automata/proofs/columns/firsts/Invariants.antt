@@ -1,8 +1,0 @@
-use Rattle.automata.proofs.KindLaws.{Covering}
-use Rattle.automata.proofs.columns.firsts.Given as goal
-
-abbrev pub invariant-loop-rest : goal.invariant-loop-rest
-invariant-loop-rest l = Covering l.ks l.at l.w l.rest l.r
-
-abbrev pub decreases-loop-rest : goal.decreases-loop-rest
-decreases-loop-rest l = l.rest
