@@ -1,7 +1,7 @@
 /* Cobleskeg: can two parts of a template set ever produce one name?
  *
  * The entries of the proved library, for programs in C. `python3 tools/build.py cobleskeg_c` builds the archive target/staticlib/libcobleskeg_c.a; of other
- * libraries it takes memcpy, memmove and memset alone. docs/GUIDE.md says how to model a question as a problem file, and how to read the answer.
+ * libraries it takes memcpy and memset alone. docs/GUIDE.md says how to model a question as a problem file, and how to read the answer.
  *
  * Tables. The alphabet has k symbols, 0 to k - 1. A problem has s strings and t numbers. A string's row is 64 words: bit l of word 0 allows the length l, bit
  * a of word i (1 to 63) allows the symbol a at place i. A number has one word: bit v allows the value v. A table is the s rows, then the t words of the

@@ -8,6 +8,7 @@
 ghost use Rattle.std.specs.Prelude.{◌≡◌, [], ◌∷◌, ◌<◌, ◌≤◌, ◌+◌, ◌*◌, length};
 ghost use Rattle.model.specs.Constraints.{cat};
 ghost use Rattle.inplace.specs.InPlace.{InPlace};
+ghost use Rattle.inplace.specs.Adding.{Added};
 ghost use Rattle.cat.specs.Strings.{Strings, Decided};
 ghost use Rattle.cat.specs.Gathering.{Gathered, Complete, Advanced};
 
@@ -46,6 +47,28 @@ struct Rows {
     z: [u64; 64],
 }
 
+// Adds to n places after c of one row, and to those after d of another, what the places after a and after b both allow. One loop for both: with `add` of inplace for
+// each there are twice the loops, and most are short.
+fn add_to_both(
+    r: &mut [u64; 64],
+    c: usize,
+    s: &mut [u64; 64],
+    d: usize,
+    t: &[u64],
+    a: usize,
+    b: usize,
+    n: usize,
+)
+    requires { (c + n < 64) × (d + n < 64) × (a + n < length t.now) × (b + n < length t.now) }
+    ensures { Added r.old c t.now a b n r.new × Added s.old d t.now a b n s.new }
+{
+    for i in 0..n {
+        let w = t[a + i + 1] & t[b + i + 1];
+        r[c + i + 1] |= w;
+        s[d + i + 1] |= w;
+    }
+}
+
 // Gathers the choices in which X has p symbols, and gives the greatest length of X so far that has some. The places up to the last such length before p are
 // gathered already, in X's row and in Z's: lengths come in their order, and what X and Z both allow there is the same for each of them.
 fn split(t: &[u64], x: usize, y: usize, z: usize, last: usize, p: usize, r: &mut Rows) -> usize
@@ -68,10 +91,8 @@ fn split(t: &[u64], x: usize, y: usize, z: usize, last: usize, p: usize, r: &mut
     r.x[0] |= words::singleton(p);
     r.y[0] |= kept;
     r.z[0] |= kept << p;
-    inplace::add(&mut r.x, last, t, from_z, from_x, p - last);
-    inplace::add(&mut r.z, last, t, from_z, from_x, p - last);
-    inplace::add(&mut r.y, 0, t, a, b, top);
-    inplace::add(&mut r.z, p, t, a, b, top);
+    add_to_both(&mut r.x, last, &mut r.z, last, t, from_z, from_x, p - last);
+    add_to_both(&mut r.y, 0, &mut r.z, p, t, a, b, top);
     p
 }
 

@@ -139,11 +139,11 @@ impl<'a> fmt::Display for Words<'a> {
     }
 }
 
-// The start of a line: the call, and what it answers or the refusal's number.
-fn print_answer(rt: &impl Print, call: &str, answer: Result<Answer, Refusal>) {
+// What the call that was just named answers, or the refusal's number.
+fn print_answer(rt: &impl Print, answer: Result<Answer, Refusal>) {
     let _ = match answer {
-        Ok(a) => print!(rt; "{call} {a}"),
-        Err(e) => print!(rt; "{call} refused {}", e.number()),
+        Ok(a) => print!(rt; " {a}"),
+        Err(e) => print!(rt; " refused {}", e.number()),
     };
 }
 
@@ -160,18 +160,17 @@ fn sum(table: &[u64]) -> u64 {
 
 // One line for both, with the sum of the table's words.
 fn read_and_unpack(rt: &impl Print, file: &[u8], table: &mut [u64]) {
-    print_answer(rt, "read", cobleskeg::read(file).map(Answer::Counts));
-    print_answer(
-        rt,
-        " unpack",
-        cobleskeg::unpack(file, table).map(|_| Answer::Done),
-    );
+    let _ = print!(rt; "read");
+    print_answer(rt, cobleskeg::read(file).map(Answer::Counts));
+    let _ = print!(rt; " unpack");
+    print_answer(rt, cobleskeg::unpack(file, table).map(|_| Answer::Done));
     let _ = println!(rt; " left {}", sum(table));
 }
 
 fn search(rt: &impl Print, case: &Case, room: &mut [u64], table: &mut [u64]) {
+    let _ = print!(rt; "search");
     let outcome = cobleskeg::search(case.file, case.argument, room, table);
-    print_answer(rt, "search", outcome.map(Answer::Ended));
+    print_answer(rt, outcome.map(Answer::Ended));
     let _ = print!(rt; " room{}", Words(room));
     print_left(rt, table);
 }
@@ -225,38 +224,43 @@ fn compile(rt: &impl Print, case: &Case, words: &mut [u64]) {
     let mut bytes = [0u8; 4096];
     let n = to_bytes(words, &mut bytes);
     let buffer = &mut bytes[..n];
+    let _ = print!(rt; "compile");
     let written = cobleskeg::compile(case.file, case.argument as usize, buffer);
-    print_answer(rt, "compile", written.map(Answer::Written));
+    print_answer(rt, written.map(Answer::Written));
     to_words(buffer, words);
     print_left(rt, words);
 }
 
-// One line for a case.
+// One line for a case. A call that answers is named before it is made, so that the output shows one that is cut off.
 fn report(rt: &impl Print, case: &Case, room: &mut [u64], table: &mut [u64]) {
     let file = case.file;
     match case.operation {
         Operation::ReadAndUnpack => read_and_unpack(rt, file, table),
         Operation::Step => {
+            let _ = print!(rt; "step");
             let struck = cobleskeg::step(file, case.argument as usize, table);
-            print_answer(rt, "step", struck.map(Answer::Struck));
+            print_answer(rt, struck.map(Answer::Struck));
             print_left(rt, table);
         }
         Operation::Settle => {
+            let _ = print!(rt; "settle");
             let settled = cobleskeg::settle(file, table);
-            print_answer(rt, "settle", settled.map(Answer::Rounds));
+            print_answer(rt, settled.map(Answer::Rounds));
             print_left(rt, table);
         }
         Operation::Search => search(rt, case, room, table),
         Operation::Perform => perform(rt, case, table),
         Operation::Compile => compile(rt, case, room),
         Operation::Index => {
+            let _ = print!(rt; "index");
             let indexed = cobleskeg::index(file, room);
-            print_answer(rt, "index", indexed.map(|_| Answer::Done));
+            print_answer(rt, indexed.map(|_| Answer::Done));
             print_left(rt, room);
         }
         Operation::SettleByIndex => {
+            let _ = print!(rt; "settle by index");
             let settled = cobleskeg::settle_by_index(file, room, table);
-            print_answer(rt, "settle by index", settled.map(Answer::Steps));
+            print_answer(rt, settled.map(Answer::Steps));
             print_left(rt, table);
         }
         Operation::PerformByIndex => perform_by_index(rt, case, room, table),

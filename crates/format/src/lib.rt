@@ -79,7 +79,8 @@ impl<'a> Problem<'a> {
         &self.file[start..end]
     }
 
-    // Constraint j. Every record was looked at for refusal 7, so that each is one.
+    // Constraint j. Every record was looked at for refusal 7, so that each is one. Inlined, so that the record is not written and read again at each step.
+    #[inline(always)]
     pub fn constraint(&self, j: usize) -> Record
         requires { j < self.now.parts.c }
         ensures { constraint_of result ≡ get_or (the_problem self.now).constraints j (always 0) }

@@ -25,7 +25,7 @@ use Rattle.shortcuts.specs.Waiting.{Unchanged}
 use Rattle.inplace.specs.declared.Changed.{Changed}
 use Rattle.inplace.specs.InPlace.{flag}
 use Rattle.steps.specs.Step.{Narrows}
-use Rattle.index.specs.Index.{position, Index, Marked}
+use Rattle.index.specs.Index.{position, Marked}
 use Rattle.records.specs.declared.Record.{Record}
 use Rattle.records.specs.Records.{constraint_of}
 use Rattle.index.specs.declared.positions.Positions.{Positions}
@@ -84,6 +84,19 @@ moved-next (v ∷ vs) (false ∷ ts) (suc k) l h = moved-next vs ts k (omega ari
 
 abbrev flags : Changed → List Bool
 flags n = n.x ∷ n.y ∷ n.z ∷ []
+
+-- where no flag is set nothing is woken
+pub quiet-wakes : (s : ℕ) (ix : List ℕ) (r : Record) (n : Changed) → n.x ≡ false → n.y ≡ false → n.z ≡ false
+    → 0 ≡ union (map (λ v. word ix (position s v)) (moved (variables (constraint_of r)) (n.x ∷ n.y ∷ n.z ∷ [])))
+unfolding union
+quiet-wakes s ix r n p q t = rw (p, q, t) (sym (ap (λ (vs : List Variable). union (map (λ v. word ix (position s v)) vs))
+    (none-moved (variables (constraint_of r)) (false ∷ false ∷ false ∷ []) unset)))
+  where
+    unset : (i : ℕ) → get_or (false ∷ false ∷ false ∷ []) i false ≡ true → ⊥
+    unset zero h = false≢true h
+    unset (suc zero) h = false≢true h
+    unset (suc (suc zero)) h = false≢true h
+    unset (suc (suc (suc i))) h = false≢true h
 
 -- w has the bits of the words of those of the first k variables that changed
 pub record Woken (s : ℕ) (ix : List ℕ) (r : Record) (n : Changed) (k w : ℕ) : Type 0 where

@@ -67,6 +67,9 @@ pub fn waking(ix: &[u64; 32], s: usize, r: Record, changed: Changed) -> u64
     ensures { result ≡ union (map (λ v. word ix.now (position s v))
         (moved (variables (constraint_of r)) (changed.x ∷ changed.y ∷ changed.z ∷ []))) }
 {
+    if !(changed.x | changed.y | changed.z) {
+        return 0; // in a search most steps strike nothing
+    }
     let flags = [changed.x, changed.y, changed.z];
     let mut woken: u64 = 0;
     for (&i, &changed) in positions_of(r, s).listed().iter().zip(&flags) {

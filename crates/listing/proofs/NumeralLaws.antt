@@ -56,8 +56,8 @@ decimal-length (suc k) n h = go (ltb n 10) refl (λ q. decimal-length k (n / 10)
 
 -- of a number below 10 there is the last digit alone
 module _ {p : Page} (n : ℕ) (h : n < 10) where
-  pub one_capacity : Capacity p (decimal n) → Capacity p (digit (n % 10) ∷ [])
-  one_capacity r = let e : n % 10 ≡ n = omega arith in rw e (rw (decimal-small n h) at r)
+  pub one_capacity : (b : ℕ) → Capacity p (decimal n) → Capacity p (b ∷ [])
+  one_capacity b r = let d : Capacity p (digit n ∷ []) = rw (decimal-small n h) at r in record { fits = d.fits }
 
   pub one-numeral : {q : Page} → Wrote p (digit (n % 10) ∷ []) q → Wrote p (decimal n) q
   one-numeral w = let e : n % 10 ≡ n = omega arith in rw (decimal-small n h) (rw e at w)
@@ -67,8 +67,8 @@ module _ {p : Page} (n : ℕ) (h : 10 ≤ n) where
   tenth_capacity r = capacity_first (decimal (n / 10)) (digit (n % 10) ∷ []) (rw (decimal-large n h) at r)
 
   module _ {q : Page} (w : Wrote p (decimal (n / 10)) q) where
-    pub digit_capacity : Capacity p (decimal n) → Capacity q (digit (n % 10) ∷ [])
-    digit_capacity r = capacity_rest w (digit (n % 10) ∷ []) (rw (decimal-large n h) at r)
+    pub digit_capacity : (b : ℕ) → Capacity p (decimal n) → Capacity q (b ∷ [])
+    digit_capacity b r = let d = capacity_rest w (digit (n % 10) ∷ []) (rw (decimal-large n h) at r) in record { fits = d.fits }
 
     pub long-numeral : {z : Page} → Wrote q (digit (n % 10) ∷ []) z → Wrote p (decimal n) z
     long-numeral v = rw (decimal-large n h) (wrote_append w v)

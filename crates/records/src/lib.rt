@@ -74,7 +74,8 @@ fn below(x: u8, a: usize, y: u8, b: usize, z: u8, c: usize) -> bool
     (x as usize) < a && (y as usize) < b && (z as usize) < c
 }
 
-// The constraint that four bytes are, if they are one, in a file with these counts.
+// The constraint that four bytes are, if they are one, in a file with these counts. Inlined, since a search decodes a record at each step.
+#[inline]
 pub fn decode(bytes: [u8; 4], p: &Parts) -> Option<Record>
     ensures { decoded_of result ≡ decode p.now.s p.now.t p.now.d bytes }
 {

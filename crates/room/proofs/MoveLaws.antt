@@ -1,17 +1,17 @@
 -- What the functions of `room` leave in its tables. Assumes nothing.
-use mathlib.Core.Path.{◌≡◌, refl, sym, ap, ap₂, ◌∙◌}
+use mathlib.Core.Path.{◌≡◌, refl, sym, ap, ap₂, subst, ◌∙◌}
+use mathlib.Core.Logic.{◌⊎◌, ⊎_elim}
 use mathlib.Core.List.{List, [], ◌∷◌, ◌++◌, map, append-nil, append_assoc}
 use Prim.Native.Nat.{ℕ, suc, ◌+◌, ◌-◌, ◌*◌, ◌^◌, ◌≤◌, ◌<◌}
 use native.Mathlib.Numerals.{add-one}
 use native.Mathlib.Omega.{arith}
-use lib.ListN.{length, set, take, drop, replicate, length-append, length-set, length-drop, length-replicate, drop_of_length-le}
-use lib.Seq.{length-take-le, take_all, take-suc-set, drop-drop, drop-cons, set_at, append_snoc}
-use Rattle.std.specs.List.{copy_within}
+use lib.ListN.{length, set, take, drop, replicate, length-append, length-set, length-drop, length-replicate, drop_of_length-le, take-append-drop}
+use lib.Seq.{get_or-take, get_or-drop, length-take-le, take_all, take_at, take-suc-set, drop_at, drop-drop, drop-cons, set_at, append_snoc}
 use Rattle.model.specs.Words.{word}
 use Rattle.model.specs.Layout.{little}
 use Rattle.model.specs.Reading.{pieces}
 use Rattle.laws.specs.Traversal.{base}
-use Rattle.laws.proofs.SliceLaws.{replaced, replaced-length}
+use Rattle.laws.proofs.SliceLaws.{replaced, replaced-length, Copied, copied_step, copied_rest, copied_front}
 use Rattle.laws.proofs.LayoutLaws.{part_length}
 use Rattle.laws.proofs.ReadingLaws.{table-length, table-drop}
 use Rattle.room.specs.Tables.{table_at, Tables, within, Chosen, Down, Sibling, Restart}
@@ -24,12 +24,60 @@ file_table m bytes = map little (pieces m 8 bytes)
 
 -- ---- words copied within one slice
 
--- what `copy_within` leaves
-pub within-pasted : (from to n end : ℕ) (R : List ℕ) → end ≡ from + n → copy_within R from end to ≡ within from to n R
-unfolding within
-within-pasted from to n end R e =
-    let k : end - from ≡ n = omega arith in
-    rw k (append_assoc (take to R) (take n (drop from R)) (drop (to + n) R) ∙ ap (λ (l : List ℕ). take to R ++ (take n (drop from R) ++ l)) (sym (drop-drop n to R)))
+module _ (from to n : ℕ) (R : List ℕ) (there : from + n ≤ length R) (fits : to + n ≤ length R) where
+  -- the slice up to the end of what is stored
+  abbrev source : List ℕ
+  source = take to R ++ take n (drop from R)
+
+  front : length (take to R) ≡ to
+  front = length-take-le to R (omega arith)
+
+  source-length : length source ≡ to + n
+  source-length = omega (arith, length-append (take to R) (take n (drop from R)), front, part_length from n R there)
+
+  source-word : (i : ℕ) → i < n → word source (to + i) ≡ word R (from + i)
+  source-word i h = sym (get_or-drop to source i 0) ∙ ap (λ (l : List ℕ). word l i) (drop_at (take to R) (take n (drop from R)) to front)
+      ∙ get_or-take n (drop from R) i 0 h ∙ get_or-drop from R i 0
+
+  source-front : take to source ≡ take to R
+  source-front = take_at (take to R) (take n (drop from R)) to front
+
+  pub within-start : Copied source R (to + 0) R
+  within-start =
+      let z : to ≡ to + 0 = omega arith in
+      subst (λ (k : ℕ). Copied source R k R) z
+      (record { size = refl; words = sym (take-append-drop to R) ∙ ap (λ (l : List ℕ). l ++ drop to R) (sym source-front) })
+
+  module _ (i : ℕ) (U : List ℕ) (h : i < n) (c : Copied source R (to + i) U) where
+    -- the words before those that are stored have not moved
+    before-word : (j : ℕ) → j < to → word U j ≡ word R j
+    before-word j g =
+        let l = source-length in
+        let e : take (to + i) U ≡ take (to + i) source =
+        ap (take (to + i)) c.words ∙ take_at (take (to + i) source) (drop (to + i) R) (to + i) (length-take-le (to + i) source (omega arith)) in
+        sym (get_or-take (to + i) U j 0 (omega arith)) ∙ ap (λ (x : List ℕ). word x j) e ∙ get_or-take (to + i) source j 0 (omega arith)
+        ∙ sym (get_or-take to source j 0 g) ∙ ap (λ (x : List ℕ). word x j) source-front ∙ get_or-take to R j 0 g
+
+    -- nor has the word that is read
+    read_word : (to ≤ from) ⊎ (from + n ≤ to) → word U (from + i) ≡ word R (from + i)
+    read_word = ⊎_elim
+        (λ l. copied_rest source R (to + i) U (omega (arith, source-length)) c (from + i) (omega arith))
+        (λ l. before-word (from + i) (omega arith))
+
+    pub within_step : (to ≤ from) ⊎ (from + n ≤ to) → Copied source R (to + (i + 1)) (set U (to + i) (word U (from + i)))
+    within_step apart =
+        let e : to + i + 1 ≡ to + (i + 1) = omega arith in
+        subst (λ (k : ℕ). Copied source R k (set U (to + i) (word U (from + i)))) e
+        (copied_step source R (to + i) U (word U (from + i)) (omega (arith, source-length)) (omega arith)
+        (read_word apart ∙ sym (source-word i h)) c)
+
+  pub within_end : (i : ℕ) (U : List ℕ) → i ≡ n → Copied source R (to + i) U → U ≡ within from to n R
+  unfolding within
+  within_end i U e c =
+      let k : to + i ≡ length source = omega (arith, source-length) in
+      copied_front source R (to + i) U k c ∙ ap (λ (j : ℕ). source ++ drop j R) source-length
+      ∙ append_assoc (take to R) (take n (drop from R)) (drop (to + n) R)
+      ∙ ap (λ (l : List ℕ). take to R ++ (take n (drop from R) ++ l)) (sym (drop-drop n to R))
 
 within-length : (from to n : ℕ) (R : List ℕ) → from + n ≤ length R → to + n ≤ length R → length (within from to n R) ≡ length R
 unfolding within replaced

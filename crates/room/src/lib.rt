@@ -6,12 +6,22 @@
 
 #![tactic(auto)]
 
-ghost use Rattle.std.specs.Prelude.{◌≡◌, map, ◌+◌, ◌*◌, ◌≤◌, ◌<◌, length, set, replicate, drop, MatchOption};
+ghost use Rattle.std.specs.Prelude.{◌≡◌, ◌⊎◌, map, ◌+◌, ◌*◌, ◌≤◌, ◌<◌, length, set, replicate, drop, MatchOption};
 ghost use Rattle.model.specs.Words.{word};
 ghost use Rattle.model.specs.Layout.{little};
 ghost use Rattle.model.specs.Reading.{pieces};
 ghost use Rattle.laws.specs.Traversal.{base};
-ghost use Rattle.room.specs.Tables.{Tables, Chosen, Down, Sibling, Restart, First, AllSingle, Last, NoneWait};
+ghost use Rattle.room.specs.Tables.{Tables, within, Chosen, Down, Sibling, Restart, First, AllSingle, Last, NoneWait};
+
+// The words of one table into another. A loop: std's `copy_from_slice` would end in memmove here, and the archive's header promises to need none.
+pub fn copy(from: &[u64], to: &mut [u64])
+    requires { length to.old ≡ length from.now }
+    ensures { to.new ≡ from.now }
+{
+    for i in 0..to.len() {
+        to[i] = from[i];
+    }
+}
 
 // The root: both tables are the file's, and nothing waits.
 pub fn start(bytes: &[u8], room: &mut [u64], m: usize)
@@ -40,6 +50,17 @@ pub fn waiting(table: &[u64], end: usize) -> Option<usize>
     (0..end).rev().find(|&at| table[at] != 0)
 }
 
+// The n words from `from` on over those from `to` on, by a loop for the same reason as `copy`. They may overlap only where they move towards the first word: no
+// word is stored before it was read.
+fn copy_within(room: &mut [u64], from: usize, to: usize, n: usize)
+    requires { (from + n ≤ length room.old) × (to + n ≤ length room.old) × ((to ≤ from) ⊎ (from + n ≤ to)) }
+    ensures { room.new ≡ within from to n room.old }
+{
+    for i in 0..n {
+        room[to + i] = room[from + i];
+    }
+}
+
 // The lowest value of word `from`, as a word of its own; the others are left in word `to`.
 fn choose(room: &mut [u64], from: usize, to: usize) -> u64
     requires { (from < length room.old) × (to < length room.old) × (0 < word room.old from) }
@@ -57,7 +78,7 @@ pub fn down(room: &mut [u64], m: usize, at: usize)
     ensures { Down m at room.old room.new }
 {
     let v = choose(room, at, 2 * m + at);
-    room.copy_within(..m, m); // the current table is kept
+    copy_within(room, 0, m, m); // the current table is kept
     room[at] = v;
 }
 
@@ -67,7 +88,7 @@ pub fn sibling(room: &mut [u64], m: usize, at: usize)
     ensures { Sibling m at room.old room.new }
 {
     let v = choose(room, 2 * m + at, 2 * m + at);
-    room.copy_within(m..2 * m, 0);
+    copy_within(room, m, 0, m);
     room[at] = v;
 }
 
@@ -87,6 +108,6 @@ pub fn restart(bytes: &[u8], room: &mut [u64], m: usize, at: usize)
     ensures { Restart (map little (pieces m 8 bytes.now)) m at room.old room.new }
 {
     let v = choose(room, 2 * m + at, 2 * m + at);
-    room.copy_within(m..m + at, 0);
+    copy_within(room, m, 0, at);
     decide(bytes, &mut room[..m], at, v);
 }

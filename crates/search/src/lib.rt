@@ -125,7 +125,7 @@ fn explore(p: &Prepared, budget: u32, room: &mut [u64], answer: &mut [u64]) -> O
     for count in 1..=budget {
         match visit(p, room, path) {
             Visited::Solved => {
-                answer.copy_from_slice(&room[..m]);
+                room::copy(&room[..m], answer);
                 return Outcome::Found(count);
             }
             Visited::Over => return Outcome::None(count),

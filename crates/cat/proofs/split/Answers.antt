@@ -18,19 +18,13 @@ returns-then-kept-eq0 c =
     c.meets.ensures
     _ c.low_mask.ensures c.if-kept-eq0.true
 
-pub add-requires-3 : goal.add-requires-3
-add-requires-3 c =
+pub add_to_both-requires-2 : goal.add_to_both-requires-2
+add_to_both-requires-2 c =
     let o = split-room _ _ _ _ _ c.requires.0 _ c.highest.ensures in
     let l = split-within _ _ _ _ c.highest.ensures c.highest-top.ensures in
-    (omega arith, omega arith, omega arith)
-
-pub add-requires-4 : goal.add-requires-4
-add-requires-4 c =
-    let o = split-room _ _ _ _ _ c.requires.0 _ c.highest.ensures in
-    let l = split-within _ _ _ _ c.highest.ensures c.highest-top.ensures in
-    (omega arith, omega arith, omega arith)
+    (omega arith, omega arith, omega arith, omega arith)
 
 pub returns : goal.returns
 returns c =
     split-some _ _ _ _ _ _ c.requires.0 (words_of c.args.t.now (λ i. search rules)) c.requires.2 _ _ c.highest.ensures _
-    c.meets.ensures _ c.low_mask.ensures _ c.highest-top.ensures _ c.singleton.ensures _ _ _ _ c.add.ensures c.add-2.ensures c.add-3.ensures c.add-4.ensures
+    c.meets.ensures _ c.low_mask.ensures _ c.highest-top.ensures _ c.singleton.ensures _ _ _ _ c.add_to_both.ensures.0 c.add_to_both.ensures.1 c.add_to_both-2.ensures.0 c.add_to_both-2.ensures.1

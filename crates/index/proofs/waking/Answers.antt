@@ -3,8 +3,11 @@ use Rattle.std.proofs.lemmas.Slice.Zip.{zip_turn, zip_end}
 use Rattle.laws.proofs.ListLaws.{get_or_in}
 use Rattle.index.specs.Standing.{listed}
 use Rattle.index.proofs.KindLaws.{standing-inside}
-use Rattle.index.proofs.WakingLaws.{woken_start, woken_more, woken_same, woken_end}
+use Rattle.index.proofs.WakingLaws.{quiet-wakes, woken_start, woken_more, woken_same, woken_end}
 use Rattle.index.proofs.waking.Goals as goal
+
+pub returns-then-not-changed : goal.returns-then-not-changed
+returns-then-not-changed c = quiet-wakes _ _ _ _ (search rules) (search rules) (search rules)
 
 pub loop-i-init : goal.loop-i-init
 loop-i-init c = (search rules, search rules, woken_start _ _ _ _)

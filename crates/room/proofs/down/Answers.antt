@@ -1,8 +1,8 @@
-use Rattle.std.proofs.Common.{rules, arith, ◌∙◌}
-use Rattle.room.proofs.MoveLaws.{down-right, within-pasted}
+use Rattle.std.proofs.Common.{rules}
+use Rattle.room.proofs.MoveLaws.{down-right}
 use Rattle.room.proofs.down.Goals as goal
 
 pub returns : goal.returns
 returns c =
     let a = c.args in
-    down-right a.m a.at _ a.room.now _ _ (search rules) (search rules) c.choose-v.ensures (c.copy_within.ensures.after ∙ within-pasted 0 a.m a.m _ _ (omega arith))
+    down-right a.m a.at _ a.room.now _ _ (search rules) (search rules) c.choose-v.ensures c.copy_within.ensures

@@ -1,6 +1,6 @@
-use Rattle.std.proofs.Common.{rules, arith, ◌∙◌}
+use Rattle.std.proofs.Common.{rules}
 use Rattle.laws.proofs.SliceLaws.{replaced}
-use Rattle.room.proofs.MoveLaws.{restart-right, within-pasted}
+use Rattle.room.proofs.MoveLaws.{restart-right}
 use Rattle.room.proofs.restart.Goals as goal
 
 pub returns : goal.returns
@@ -8,4 +8,4 @@ unfolding replaced
 returns c =
     let a = c.args in
     restart-right a.m a.at _ a.room.now _ _ (search rules) (search rules)
-    c.choose-v.ensures a.bytes.now _ (c.copy_within.ensures.after ∙ within-pasted a.m 0 a.at _ _ (omega arith)) c.decide.ensures
+    c.choose-v.ensures a.bytes.now _ c.copy_within.ensures c.decide.ensures

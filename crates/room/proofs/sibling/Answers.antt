@@ -1,8 +1,8 @@
-use Rattle.std.proofs.Common.{rules, arith, ◌∙◌}
-use Rattle.room.proofs.MoveLaws.{sibling-right, within-pasted}
+use Rattle.std.proofs.Common.{rules}
+use Rattle.room.proofs.MoveLaws.{sibling-right}
 use Rattle.room.proofs.sibling.Goals as goal
 
 pub returns : goal.returns
 returns c =
     let a = c.args in
-    sibling-right a.m a.at _ a.room.now _ _ (search rules) (search rules) c.choose-v.ensures (c.copy_within.ensures.after ∙ within-pasted a.m 0 a.m _ _ (omega arith))
+    sibling-right a.m a.at _ a.room.now _ _ (search rules) (search rules) c.choose-v.ensures c.copy_within.ensures

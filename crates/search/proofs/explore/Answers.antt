@@ -5,7 +5,7 @@ use Rattle.search.proofs.explore.Goals as goal
 pub returns-in-Solved-clause-answer_after : goal.returns-in-Solved-clause-answer_after
 returns-in-Solved-clause-answer_after c =
     let i = c.loop-count.invariant in
-    (exploring_solved _ _ _ _ _ _ _ i.2 c.loop-count-test.true _ _ c.visit.ensures c.in-Solved.is _ (rw c.words-m.ensures at c.copy_from_slice.ensures.after)).0
+    (exploring_solved _ _ _ _ _ _ _ i.2 c.loop-count-test.true _ _ c.visit.ensures c.in-Solved.is _ (rw c.words-m.ensures at c.copy.ensures)).0
 
 pub returns-in-Over-clause-answer_after : goal.returns-in-Over-clause-answer_after
 returns-in-Over-clause-answer_after c =

@@ -8,8 +8,8 @@ numeral-requires t c = (search rules, tenth_capacity c.args.n (omega arith) c.re
 
 pub byte-requires : goal.byte-requires
 byte-requires t c = elim c.if-n-ge10.branch [
-  | then-n-ge10 w ↦ rw w.self-is (digit_capacity c.args.n (omega arith) w.numeral.ensures c.requires)
-  | else-n-ge10 w ↦ rw w.self-is (one_capacity c.args.n (omega arith) c.requires)
+  | then-n-ge10 w ↦ rw w.self-is (digit_capacity c.args.n (omega arith) w.numeral.ensures _ c.requires)
+  | else-n-ge10 w ↦ rw w.self-is (one_capacity c.args.n (omega arith) _ c.requires)
 ]
 
 pub returns : goal.returns
