@@ -129,9 +129,9 @@ pub fn index(file: &[u8], index: &mut [u64]) -> Result<(), Refusal>
     ensures result_after { index_reply index.new result ≡ model.index (reading file.now) index.old }
     ensures index_after { index.new ≡ leaves (λ I. I) (model.index (reading file.now) index.old) index.old }
 {
-    let p = format::accept(file)?;
-    check_index(&p, index)?;
-    index::write(&p, index);
+    let problem = format::accept(file)?;
+    check_index(&problem, index)?;
+    index::write(&problem, index);
     Ok(())
 }
 
